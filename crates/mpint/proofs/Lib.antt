@@ -1,0 +1,4 @@
+pub mod MpintLaws
+pub mod ValueLaws
+pub mod RoundTrip
+pub mod Unique

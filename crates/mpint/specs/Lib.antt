@@ -1,0 +1,2 @@
+pub mod Mpint
+pub mod Value

@@ -1,0 +1,33 @@
+-- Laws of `specs/Causes.antt`: a cause that holds is the answer, one that does not leaves it to the rest. Assumes nothing.
+use Prim.Native.Nat.{ℕ, _<_}
+use mathlib.Core.Path.{_≡_, refl, sym, _∙_}
+use mathlib.Core.Bool.{Bool, true, false}
+use native.Mathlib.Omega.{arith}
+use Rattle.wire.specs.Causes.{causeIf, causeUnless}
+
+pub if-holds : (t : Bool) (n rest : ℕ) → t ≡ true → causeIf t n rest ≡ n
+unfolding causeIf
+if-holds t n rest e = rw e
+
+pub if-fails : (t : Bool) (n rest : ℕ) → t ≡ false → causeIf t n rest ≡ rest
+unfolding causeIf
+if-fails t n rest e = rw e
+
+pub unless-holds : (t : Bool) (n rest : ℕ) → t ≡ true → causeUnless t n rest ≡ rest
+unfolding causeUnless
+unless-holds t n rest e = rw e
+
+pub unless-fails : (t : Bool) (n rest : ℕ) → t ≡ false → causeUnless t n rest ≡ n
+unfolding causeUnless
+unless-fails t n rest e = rw e
+
+-- no cause at all: each test failed, or held, and the rest has none
+pub if-none : (t : Bool) (n rest : ℕ) → 0 < n → causeIf t n rest ≡ 0 → (t ≡ false) × (rest ≡ 0)
+unfolding causeIf
+if-none true n rest h e = let w : ⊥ = omega arith in absurd w
+if-none false n rest h e = (refl, e)
+
+pub unless-none : (t : Bool) (n rest : ℕ) → 0 < n → causeUnless t n rest ≡ 0 → (t ≡ true) × (rest ≡ 0)
+unfolding causeUnless
+unless-none true n rest h e = (refl, e)
+unless-none false n rest h e = let w : ⊥ = omega arith in absurd w

@@ -1,0 +1,6 @@
+pub mod ByteLaws
+pub mod CauseLaws
+pub mod PartLaws
+pub mod StringLaws
+pub mod WriterLaws
+pub mod RoundTrip

@@ -1,0 +1,12 @@
+-- The first cause in an order: document 01 gives a number above 0 exactly when its cause is the first to hold, else 0.
+-- Assumes nothing.
+use Prim.Native.Nat.{ℕ}
+use mathlib.Core.Bool.{Bool, cond}
+
+-- n where the test holds, else what the rest says
+unfoldable pub causeIf : Bool → ℕ → ℕ → ℕ
+causeIf t n rest = cond t n rest
+
+-- n where the test fails, else what the rest says
+unfoldable pub causeUnless : Bool → ℕ → ℕ → ℕ
+causeUnless t n rest = cond t rest n

@@ -1,0 +1,5 @@
+pub mod Bytes
+pub mod Causes
+pub mod Parts
+pub mod Strings
+pub mod Writers

@@ -1,0 +1,238 @@
+// The SSH string (RFC 4251, section 5), and what every codec above it shares: the place of a part in an input,
+// the answer of a writer, bytes laid into a lent buffer, two byte strings compared.
+ghost use mathlib.Core.Path.{_≡_};
+ghost use Prim.Native.Nat.{_+_, _*_, _≤_};
+ghost use lib.ListN.{length, drop};
+ghost use denote.Ref.{ptr};
+ghost use Rattle.wire.specs.Bytes.{same, laid};
+ghost use Rattle.wire.specs.Parts.{inside, bytesAt, placeAt};
+ghost use Rattle.wire.specs.Strings.{number32, bytes32, string, fieldAt, readString, stringCause};
+ghost use Rattle.wire.specs.Writers.{wrote, leaves};
+
+// The place of a part in an input, counted from the input's first byte. A refusal's parts are empty, at 0.
+pub struct Part {
+    pub start: usize,
+    pub len: usize,
+}
+
+// A string inside an input: 0 and its body's place, or 12.
+pub struct Field {
+    pub number: u8,
+    pub start: usize,
+    pub len: usize,
+}
+
+// The string at the front of an input: 0 with its body and what follows it, or 12.
+pub struct StringRead {
+    pub number: u8,
+    pub body: Part,
+    pub rest: Part,
+}
+
+// What a writer answers: 0 and the bytes written, or the number of a refusal and 0.
+pub struct Written {
+    pub number: u8,
+    pub count: usize,
+}
+
+// Whether two byte strings are the same.
+pub fn equal(a: &[u8], b: &[u8]) -> bool
+    ensures { λ r. ⌜ r ≡ same (now (a .entry)) (now (b .entry)) ⌝ }
+{
+    if a.len() != b.len() {
+        return false;
+    }
+    let mut i = 0;
+    while i < a.len() {
+        if a[i] != b[i] {
+            return false;
+        }
+        i += 1;
+    }
+    true
+}
+
+// The part of s at a place; the empty part at its start where the place passes the end.
+pub fn part_of(s: &[u8], p: Part) -> &[u8]
+    ensures { λ r. ⌜ (now r ≡ bytesAt (now (s .entry)) (inside (length (now (s .entry))) p)) × (ptr r ≡ placeAt (ptr (s .entry)) (inside (length (now (s .entry))) p)) ⌝ }
+{
+    let start = p.start;
+    let len = p.len;
+    if s.len() < start {
+        return &s[0..0];
+    }
+    if s.len() - start < len {
+        return &s[0..0];
+    }
+    let end = start + len;
+    &s[start..end]
+}
+
+// Bytes as parameters: their range is known where they are added up.
+fn join(a: u8, b: u8, c: u8, d: u8) -> usize
+    ensures { λ r. ⌜ r ≡ a * 16777216 + b * 65536 + c * 256 + d ⌝ }
+{
+    (a as usize) * 16777216 + (b as usize) * 65536 + (c as usize) * 256 + (d as usize)
+}
+
+// The big-endian number in the four bytes from `at` on.
+fn read_u32(s: &[u8], at: usize) -> usize
+    requires { ⌜ at + 4 ≤ length (now s) ⌝ }
+    ensures { λ r. ⌜ r ≡ number32 (drop at (now (s .entry))) ⌝ }
+{
+    join(s[at], s[at + 1], s[at + 2], s[at + 3])
+}
+
+// The string whose four length bytes begin at `at`; 12 where it, or they, pass the end. Nothing is added to a
+// length that was read, so that none can wrap.
+pub fn field_at(s: &[u8], at: usize) -> Field
+    ensures { λ r. ⌜ r ≡ fieldAt (now (s .entry)) at ⌝ }
+{
+    if s.len() < at {
+        return Field {
+            number: 12,
+            start: 0,
+            len: 0,
+        };
+    }
+    if s.len() - at < 4 {
+        return Field {
+            number: 12,
+            start: 0,
+            len: 0,
+        };
+    }
+    let n = read_u32(s, at);
+    if n <= s.len() - at - 4 {
+        Field {
+            number: 0,
+            start: at + 4,
+            len: n,
+        }
+    } else {
+        Field {
+            number: 12,
+            start: 0,
+            len: 0,
+        }
+    }
+}
+
+// The string at the front of s, and what follows it.
+pub fn read_string(s: &[u8]) -> StringRead
+    ensures { λ r. ⌜ r ≡ readString (now (s .entry)) ⌝ }
+{
+    let f = field_at(s, 0);
+    if f.number == 0 {
+        let next = f.start + f.len;
+        StringRead {
+            number: 0,
+            body: Part {
+                start: f.start,
+                len: f.len,
+            },
+            rest: Part {
+                start: next,
+                len: s.len() - next,
+            },
+        }
+    } else {
+        StringRead {
+            number: 12,
+            body: Part { start: 0, len: 0 },
+            rest: Part { start: 0, len: 0 },
+        }
+    }
+}
+
+// The body of the string at the front of s, as a part of s.
+pub fn string_body(s: &[u8]) -> &[u8]
+    ensures { λ r. ⌜ (now r ≡ bytesAt (now (s .entry)) (readString (now (s .entry)) .body)) × (ptr r ≡ placeAt (ptr (s .entry)) (readString (now (s .entry)) .body)) ⌝ }
+{
+    let r = read_string(s);
+    let p = r.body;
+    part_of(s, p)
+}
+
+// What follows the string at the front of s, as a part of s.
+pub fn string_rest(s: &[u8]) -> &[u8]
+    ensures { λ r. ⌜ (now r ≡ bytesAt (now (s .entry)) (readString (now (s .entry)) .rest)) × (ptr r ≡ placeAt (ptr (s .entry)) (readString (now (s .entry)) .rest)) ⌝ }
+{
+    let r = read_string(s);
+    let p = r.rest;
+    part_of(s, p)
+}
+
+// Lays src into out from `at` on, where it fits there; else out stays.
+pub fn put_bytes(out: &mut [u8], at: usize, src: &[u8])
+    ensures { λ _. ⌜ now (out .exit) ≡ laid (now (out .entry)) at (now (src .entry)) ⌝ }
+{
+    if out.len() < at {
+        return;
+    }
+    if out.len() - at < src.len() {
+        return;
+    }
+    let mut i = 0;
+    while i < src.len() {
+        out[at + i] = src[i];
+        i += 1;
+    }
+}
+
+// Lays the four bytes of n into out from `at` on, where they fit there; else out stays.
+pub fn put_u32(out: &mut [u8], at: usize, n: usize)
+    ensures { λ _. ⌜ now (out .exit) ≡ laid (now (out .entry)) at (bytes32 n) ⌝ }
+{
+    if out.len() < at {
+        return;
+    }
+    if out.len() - at < 4 {
+        return;
+    }
+    out[at] = (n / 16777216 % 256) as u8;
+    out[at + 1] = (n / 65536 % 256) as u8;
+    out[at + 2] = (n / 256 % 256) as u8;
+    out[at + 3] = (n % 256) as u8;
+}
+
+// Lays body as a string into out from `at` on, where it fits there; else out stays.
+pub fn put_string(out: &mut [u8], at: usize, body: &[u8])
+    ensures { λ _. ⌜ now (out .exit) ≡ laid (now (out .entry)) at (string (now (body .entry))) ⌝ }
+{
+    if out.len() < at {
+        return;
+    }
+    if out.len() - at < 4 {
+        return;
+    }
+    if out.len() - at - 4 < body.len() {
+        return;
+    }
+    put_u32(out, at, body.len());
+    put_bytes(out, at + 4, body);
+}
+
+// Writes body as a string at the beginning of out.
+pub fn write_string(out: &mut [u8], body: &[u8]) -> Written
+    ensures { λ r. ⌜ (r ≡ wrote (stringCause (length (now (out .entry))) (now (body .entry))) (string (now (body .entry)))) × (now (out .exit) ≡ leaves (stringCause (length (now (out .entry))) (now (body .entry))) (string (now (body .entry))) (now (out .entry))) ⌝ }
+{
+    let n = body.len();
+    if 4294967295 < n {
+        return Written {
+            number: 4,
+            count: 0,
+        };
+    }
+    if out.len() < 4 + n {
+        return Written {
+            number: 5,
+            count: 0,
+        };
+    }
+    put_string(out, 0, body);
+    Written {
+        number: 0,
+        count: 4 + n,
+    }
+}
