@@ -1,1 +1,2 @@
 pub mod MethodLaws
+pub mod FormLaws

@@ -1,0 +1,42 @@
+-- Laws of `specs/Form.antt`: the form rule, once over the shape and so over every row. Assumes nothing.
+use Prim.Native.Nat.{ℕ, _≤_}
+use mathlib.Core.Path.{_≡_, refl, sym, ap, _∙_}
+use mathlib.Core.List.{List}
+use mathlib.Core.Bool.{Bool, true, false, cond, _&&_}
+use lib.ListN.{length, getD}
+use lib.Dec.{leb, eqb}
+use borrow.Author.Tests.{eqb-true, eq-eqb, le-leb}
+use Rattle.wire.proofs.StringLaws.{and-true}
+use Rattle.methods.specs.Rows.{rowOf}
+use Rattle.methods.specs.Form.{lengthFits, leadFits, formed}
+use Rattle.methods.specs.declared.Shape.{Shape}
+use Rattle.methods.proofs.MethodLaws.{sound, row-number}
+
+module _ (h : Shape) (v : List ℕ) where
+  -- a value of the right form has the shape's length, and byte 4 first in its classical part where that is a NIST point
+  pub formed-sound : formed h v ≡ true → (length v ≡ h .len) × (h .point ≡ true → getD v (h .classical) 0 ≡ 4)
+  unfolding formed lengthFits leadFits
+  formed-sound e =
+      let a = and-true (eqb (length v) (h .len)) (cond (h .point) (eqb (getD v (h .classical) 0) 4) true) e in
+      (eqb-true (length v) (h .len) (a .0), λ p. eqb-true (getD v (h .classical) 0) 4 (sym (ap (λ (t : Bool). cond t (eqb (getD v (h .classical) 0) 4) true) p) ∙ a .1))
+
+  pub formed-complete : length v ≡ h .len → (h .point ≡ true → getD v (h .classical) 0 ≡ 4) → formed h v ≡ true
+  unfolding formed lengthFits leadFits
+  formed-complete l p = rw (eq-eqb (length v) (h .len) l) (by-test (h .point) p)
+    where
+      by-test : (t : Bool) → (t ≡ true → getD v (h .classical) 0 ≡ 4) → cond t (eqb (getD v (h .classical) 0) 4) true ≡ true
+      by-test true q = eq-eqb (getD v (h .classical) 0) 4 (q refl)
+      by-test false q = refl
+
+-- in methods 4 to 8, on either side, the lead byte is 4
+module _ (n : ℕ) (v : List ℕ) (a : 4 ≤ n) (b : n ≤ 8) (one : 1 ≤ n) (nine : n ≤ 9) where
+  point : rowOf n .c .point ≡ true
+  point =
+      let e = row-number n one nine in
+      sound n one nine .c-point ∙ rw (le-leb 4 (rowOf n .number) (rw e a), le-leb (rowOf n .number) 8 (rw e b))
+
+  pub c-lead : formed (rowOf n .c) v ≡ true → getD v (rowOf n .c .classical) 0 ≡ 4
+  c-lead f = formed-sound (rowOf n .c) v f .1 point
+
+  pub s-lead : formed (rowOf n .s) v ≡ true → getD v (rowOf n .s .classical) 0 ≡ 4
+  s-lead f = formed-sound (rowOf n .s) v f .1 (sound n one nine .s-point ∙ point)
