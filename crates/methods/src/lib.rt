@@ -1,6 +1,5 @@
 // Document 01's table of methods: a row for each number and name, with the sizes and rules of its exchange.
 use wire::Part;
-
 ghost use mathlib.Core.Path.{_≡_};
 ghost use Prim.Native.Nat.{_+_};
 ghost use Rattle.methods.specs.Rows.{rowOf, numberOf};
@@ -43,6 +42,7 @@ const CURVE25519: Shape = Shape {
     classical: 0,
     point: false,
 };
+
 const CURVE448: Shape = Shape {
     len: 56,
     classical: 0,
@@ -54,11 +54,13 @@ const P256: Shape = Shape {
     classical: 0,
     point: true,
 };
+
 const P384: Shape = Shape {
     len: 97,
     classical: 0,
     point: true,
 };
+
 const P521: Shape = Shape {
     len: 133,
     classical: 0,
@@ -70,21 +72,25 @@ const KEY768_P256: Shape = Shape {
     classical: 1184,
     point: true,
 };
+
 const TEXT768_P256: Shape = Shape {
     len: 1153,
     classical: 1088,
     point: true,
 };
+
 const KEM1024_P384: Shape = Shape {
     len: 1665,
     classical: 1568,
     point: true,
 };
+
 const KEY768_CURVE25519: Shape = Shape {
     len: 1216,
     classical: 1184,
     point: false,
 };
+
 const TEXT768_CURVE25519: Shape = Shape {
     len: 1120,
     classical: 1088,

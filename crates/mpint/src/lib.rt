@@ -1,7 +1,6 @@
 // The SSH mpint (RFC 4251, section 5): a string whose body is the shortest two's complement, the highest byte first.
 use wire::Part;
 use wire::Written;
-
 ghost use mathlib.Core.Path.{_≡_};
 ghost use Prim.Native.Nat.{_≤_};
 ghost use lib.ListN.{length, drop};

@@ -1,7 +1,6 @@
 // The shared secret K as it stands in the hash input: X as an mpint (RFC 8731, section 3.1; RFC 5656, section 4), or a hybrid's
 // digest as a string, kept in a record of fixed size.
 use methods::KForm;
-
 ghost use mathlib.Core.Path.{_≡_};
 ghost use mathlib.Core.List.{_∷_, _++_};
 ghost use Prim.Native.Nat.{_≤_};

@@ -18,10 +18,12 @@ unfolding formed
 returns c =
     let v = now (c .before .before .before .before .args .value) in
     c .lead-fits .ensures ∙ ap (λ (t : Bool). t && leadFits (c .before .before .before .before .args .h) v) (sym (c .before .if1 .taken) ∙ c .before .before .length-fits .ensures)
+
 returns-2 : tie.Need-returns-2
 unfolding formed
 returns-2 c =
     let v = now (c .before .before .before .args .value) in
     ap (λ (t : Bool). t && leadFits (c .before .before .before .args .h) v) (sym (c .if1 .left) ∙ c .before .length-fits .ensures)
+
 pub has-form-spec : {M : Type 1} → statement M
 has-form-spec = tie.close (tie.spec length-fits-requires lead-fits-requires returns returns-2)

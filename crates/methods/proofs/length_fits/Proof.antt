@@ -7,5 +7,6 @@ use Rattle.methods.proofs.length_fits.Tie as tie
 returns : tie.Need-returns
 unfolding lengthFits
 returns c = refl
+
 pub length-fits-spec : {M : Type 1} → statement M
 length-fits-spec = tie.close (tie.spec returns)

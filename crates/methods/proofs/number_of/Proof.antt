@@ -16,19 +16,26 @@ use Rattle.methods.proofs.number_of.Tie as tie
 
 abbrev Inv-loop : tie.InvT-loop
 Inv-loop name n₀ n = (1 ≤ n) × (n ≤ 10) × (named name (drop (n - 1) rows) ≡ numberOf name)
+
 abbrev μ-loop : tie.MeasureT-loop
 μ-loop name n₀ n = 10 - n
+
 loop-holds : tie.Need-loop-holds Inv-loop μ-loop
 unfolding numberOf
 loop-holds c = (omega arith, omega arith, refl)
+
 method-of-requires : tie.Need-method-of-requires Inv-loop μ-loop
 method-of-requires c κs = tt
+
 slice-aggregate-part-of : tie.Need-slice-aggregate-part-of Inv-loop μ-loop
 slice-aggregate-part-of c = search needs
+
 part-of-requires : tie.Need-part-of-requires Inv-loop μ-loop
 part-of-requires c κs = tt
+
 equal-requires : tie.Need-equal-requires Inv-loop μ-loop
 equal-requires c κs = tt
+
 -- what `equal` compared is the name of the row at n
 named-here : (c : tie.After-equal Inv-loop μ-loop) →
     c .equal .result ≡ same (now (c .before .before .before .before .before .before .before .before .args .name)) (nameOf (rowOf (c .before .before .before .before .before .before .loop .n)))
@@ -47,10 +54,13 @@ returns c =
     let name = now (l .before .before .args .name) in
     let n = l .loop .n in
     sym (sym (l .loop .inv .2) ∙ named-at name n (omega arith) (omega arith) ∙ ap (λ (t : Bool). cond t n (named name (drop (n + 1 - 1) rows))) (sym (named-here (c .before)) ∙ c .if1 .taken))
+
 add-n : tie.Need-add-n Inv-loop μ-loop
 add-n c = omega arith
+
 loop-less : tie.Need-loop-less Inv-loop μ-loop
 loop-less c = omega arith
+
 loop-again : tie.Need-loop-again Inv-loop μ-loop
 loop-again c =
     let l = c .before .before .before .before .before .before .before in
@@ -60,9 +70,11 @@ loop-again c =
       omega arith,
       sym (named-at name n (omega arith) (omega arith) ∙ ap (λ (t : Bool). cond t n (named name (drop (n + 1 - 1) rows))) (sym (named-here (c .before)) ∙ c .if1 .left)) ∙ l .loop .inv .2,
     )
+
 returns-2 : tie.Need-returns-2 Inv-loop μ-loop
 returns-2 c =
     let l = c .before in named-end (now (l .before .before .args .name)) (l .loop .n) (omega arith) ∙ l .loop .inv .2
+
 pub number-of-spec : {M : Type 1} → statement M
 number-of-spec =
     tie.close

@@ -19,5 +19,6 @@ returns c =
     let s = c .before .before .before .before .args .s in
     let r = c .before .before .read-mpint in
     part-read _ (now s) s (c .part-of .result) (r .result .body) _ (ap (λ (x : MpintRead). x .body) (r .ensures)) (mpint-within (now s) .0) (c .part-of .ensures)
+
 pub mpint-body-spec : {M : Type 1} → statement M
 mpint-body-spec = tie.close (tie.spec read-mpint-requires part-of-requires returns)

@@ -25,6 +25,7 @@ returns : tie.Need-returns
 returns c =
     let s = now (c .before .before .before .before .args .s) in
     mpint-cut s (read-nonzero s _ (c .before .before .read-string .ensures) (c .if1 .taken))
+
 part-of-requires : tie.Need-part-of-requires
 part-of-requires c κs = search needs
 
@@ -49,6 +50,7 @@ returns-2 : tie.Need-returns-2
 returns-2 c =
     let s = now (c .before .before .before .before .before .before .before .before .before .args .s) in
     mpint-long s (is-whole (c .before)) (body-excess (c .before) ∙ c .if2 .taken)
+
 sign-of-requires : tie.Need-sign-of-requires
 sign-of-requires c κs = search needs
 
@@ -60,6 +62,7 @@ returns-3 c =
     let g : toZ w8 (ofZ w8 (c .sign-of .result)) ≡ signOf (bodyOf s) = z ∙ c .sign-of .ensures ∙ ap signOf (body-bytes d) in
     let e = d .before .before .before .before .before .before .read-string .ensures in
     (λ i. record { number = 0; sign = g i; body = e i .body; rest = e i .rest }) ∙ mpint-found s (is-whole d) (body-excess d ∙ c .before .if2 .left)
+
 pub read-mpint-spec : {M : Type 1} → statement M
 read-mpint-spec =
     tie.close

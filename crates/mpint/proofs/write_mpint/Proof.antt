@@ -39,6 +39,7 @@ returns c =
       w .0 ∙ ap (λ (b : List ℕ). wrote (stringCause (length o) b) (string b)) e,
       w .1 ∙ ap (λ (b : List ℕ). leaves (stringCause (length o) b) (string b) o) e,
     )
+
 pub write-mpint-spec : {M : Type 1} → statement M
 write-mpint-spec =
     tie.close

@@ -32,15 +32,19 @@ returns c =
     let x = now (c .before .before .before .before .before .args .x) in
     let k = c .before .before .before .leading-zeros in
     c .keep .ensures ∙ ap (λ (b : List ℕ). kept (string b)) (tail-part x (k .result) ∙ sym (k-zero x (k .result) (k .ensures) (c .before .before .if1 .taken)))
+
 shared-slice-read-if2 : tie.Need-shared-slice-read-if2
 shared-slice-read-if2 c =
     let h = zeros-within (now (c .before .before .before .before .args .x)) in omega (arith, c .before .before .leading-zeros .ensures)
+
 sub-keep-2 : tie.Need-sub-keep-2
 sub-keep-2 c =
     let h = zeros-within (now (c .before .before .before .before .before .args .x)) in omega (arith, c .before .before .before .leading-zeros .ensures)
+
 part-keep-start-2 : tie.Need-part-keep-start-2
 part-keep-start-2 c =
     let h = zeros-within (now (c .before .before .before .before .before .args .x)) in omega (arith, c .before .before .before .leading-zeros .ensures)
+
 part-keep-end-2 : tie.Need-part-keep-end-2
 part-keep-end-2 c = search needs
 
@@ -53,12 +57,15 @@ returns-2 c =
     let k = c .before .before .before .before .before .leading-zeros in
     let h = zeros-within x in
     c .keep2 .ensures ∙ ap (λ (b : List ℕ). kept (string b)) (tail-part x (k .result) ∙ sym (k-low x (k .result) (k .ensures) (omega (arith, k .ensures)) (c .before .before .if2 .taken)))
+
 sub-keep-3 : tie.Need-sub-keep-3
 sub-keep-3 c =
     let h = zeros-within (now (c .before .before .before .before .before .args .x)) in omega (arith, c .before .before .before .leading-zeros .ensures)
+
 part-keep-start-3 : tie.Need-part-keep-start-3
 part-keep-start-3 c =
     let h = zeros-within (now (c .before .before .before .before .before .args .x)) in omega (arith, c .before .before .before .leading-zeros .ensures)
+
 part-keep-end-3 : tie.Need-part-keep-end-3
 part-keep-end-3 c = search needs
 
@@ -71,6 +78,7 @@ returns-3 c =
     let k = c .before .before .before .before .before .leading-zeros in
     let h = zeros-within x in
     c .keep3 .ensures ∙ ap (λ (b : List ℕ). kept (string b)) (ap (λ (y : List ℕ). 0 ∷ y) (tail-part x (k .result)) ∙ sym (k-high x (k .result) (k .ensures) (omega (arith, k .ensures)) (c .before .before .if2 .left)))
+
 pub k-from-x-spec : {M : Type 1} → statement M
 k-from-x-spec =
     tie.close

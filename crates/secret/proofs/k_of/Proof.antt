@@ -23,10 +23,12 @@ returns : tie.Need-returns
 returns c =
     let a = c .before .before .before .before .before .args in
     c .k-from-x .ensures ∙ ap (λ (f : KForm). kept (kBytes f (now (a .x)) (now (a .digest)))) (sym (c .before .enum-told .given .1))
+
 returns-2 : tie.Need-returns-2
 returns-2 c =
     let a = c .before .before .before .before .before .args in
     c .k-from-digest .ensures ∙ ap (λ (f : KForm). kept (kBytes f (now (a .x)) (now (a .digest)))) (sym (c .before .enum-told2 .given .1))
+
 pub k-of-spec : {M : Type 1} → statement M
 k-of-spec =
     tie.close

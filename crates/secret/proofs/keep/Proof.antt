@@ -18,6 +18,7 @@ sub-if1 c = search needs
 
 returns : tie.Need-returns
 returns c = let a = c .before .before .args in kept-no-digits (a .pad) (now (a .digits)) (c .if1 .taken)
+
 slice-aggregate-put-u32 : tie.Need-slice-aggregate-put-u32
 slice-aggregate-put-u32 c = search needs
 
@@ -41,6 +42,7 @@ returns-2 c =
     let a = c .before .before .before .before .before .before .before .before .args in
     kept-digits (a .pad) (now (a .digits)) (omega arith) _
     (c .before .put-bytes .ensures ∙ ap (λ (l : List ℕ). laid l (4 + a .pad) (now (a .digits))) (c .before .before .before .before .put-u32 .ensures))
+
 pub keep-spec : {M : Type 1} → statement M
 keep-spec =
     tie.close
