@@ -1,5 +1,6 @@
 -- Laws of `specs/Strings.antt`. Assumes nothing.
-use Prim.Native.Nat.{ℕ, _+_, _-_, _≤_, _<_}
+use Prim.Native.Nat.{ℕ, zero, suc, _+_, _-_, _*_, _≤_, _<_}
+use native.Mathlib.Nat.{add-zero}
 use mathlib.Core.Path.{_≡_, refl, sym, ap, _∙_}
 use mathlib.Core.List.{List, [], _++_}
 use mathlib.Core.Bool.{Bool, true, false, cond, _&&_, false≢true}
@@ -10,9 +11,10 @@ use lib.Dec.{ltb, leb}
 use borrow.Author.Tests.{leb-true, le-leb, lt-leb, lt-ltb, le-ltb}
 use Rattle.wire.specs.Parts.{part, nothing}
 use Rattle.wire.specs.Bytes.{laid}
-use Rattle.wire.specs.Strings.{bytes32, number32, string, whole, fieldAt, readString, stringCause}
+use Rattle.wire.specs.Strings.{bytes32, number32, numberAt, string, whole, fieldAt, walk, readString, stringCause}
 use Rattle.wire.specs.declared.Field.{Field}
 use Rattle.wire.specs.declared.StringRead.{StringRead}
+use Rattle.wire.specs.declared.Walk.{Walk}
 use Rattle.wire.proofs.ByteLaws.{laid-laid}
 use Rattle.wire.proofs.CauseLaws.{if-holds, if-fails}
 
@@ -27,6 +29,22 @@ pub laid-string : (l : List ℕ) (at : ℕ) (b : List ℕ) → at + length (stri
     → laid (laid l at (bytes32 (length b))) (at + 4) b ≡ laid l at (string b)
 unfolding string
 laid-string l at b h = laid-laid l at (bytes32 (length b)) b h
+
+-- ---- numberAt
+
+module _ (s : List ℕ) (at : ℕ) where
+  pub number-past : length s < at + 4 → 0 ≡ numberAt s at
+  unfolding numberAt
+  number-past h = rw (lt-leb (at + 4) (length s) h)
+
+  pub number-at : at + 4 ≤ length s → numberAt s at ≡ number32 (drop at s)
+  unfolding numberAt
+  number-at h = rw (le-leb (at + 4) (length s) h)
+
+  -- four bytes that were read
+  pub number-read : (n : ℕ) → at + 4 ≤ length s
+      → n ≡ getD s at 0 * 16777216 + getD s (at + 1) 0 * 65536 + getD s (at + 2) 0 * 256 + getD s (at + 3) 0 → n ≡ numberAt s at
+  number-read n h e = e ∙ sym (number-at h ∙ simp (getD-drop, add-zero))
 
 -- ---- whole
 
@@ -107,6 +125,24 @@ field-refused s at f e z = by-test (whole (drop at s)) refl e
         → whole (drop at s) ≡ false
     by-test true w q = absurd (z (ap (λ (x : Field). x .number) q))
     by-test false w q = w
+
+-- ---- walk
+
+module _ (s : List ℕ) where
+  pub walk-none : (at k : ℕ) → k ≤ 0 → _≡_ {A = Walk} (record { number = 0; place = at }) (walk s at k)
+  walk-none at zero h = refl
+  walk-none at (suc k) h = let w : ⊥ = omega arith in absurd w
+
+  pub walk-cut : (at k : ℕ) → 0 < k → whole (drop at s) ≡ false → _≡_ {A = Walk} (record { number = 12; place = at }) (walk s at k)
+  walk-cut at zero h w = let v : ⊥ = omega arith in absurd v
+  walk-cut at (suc k) h w = rw w
+
+  pub walk-more : (at k : ℕ) → 0 < k → whole (drop at s) ≡ true → walk s at k ≡ walk s (at + 4 + number32 (drop at s)) (k - 1)
+  walk-more at zero h w = let v : ⊥ = omega arith in absurd v
+  walk-more at (suc k) h w = rw w (ap (walk s (at + 4 + number32 (drop at s))) (sym e))
+    where
+      e : suc k - 1 ≡ k
+      e = omega arith
 
 -- ---- readString
 

@@ -1,12 +1,12 @@
 // The SSH string (RFC 4251, section 5), and what every codec above it shares: the place of a part in an input,
 // the answer of a writer, bytes laid into a lent buffer, two byte strings compared.
 ghost use mathlib.Core.Path.{_≡_};
-ghost use Prim.Native.Nat.{_+_, _*_, _≤_};
-ghost use lib.ListN.{length, drop};
+ghost use Prim.Native.Nat.{_+_, _*_};
+ghost use lib.ListN.{length};
 ghost use denote.Ref.{ptr};
 ghost use Rattle.wire.specs.Bytes.{same, laid};
 ghost use Rattle.wire.specs.Parts.{inside, bytesAt, placeAt};
-ghost use Rattle.wire.specs.Strings.{number32, bytes32, string, fieldAt, readString, stringCause};
+ghost use Rattle.wire.specs.Strings.{bytes32, numberAt, string, fieldAt, walk, readString, stringCause};
 ghost use Rattle.wire.specs.Writers.{wrote, leaves};
 
 // The place of a part in an input, counted from the input's first byte. A refusal's parts are empty, at 0.
@@ -20,6 +20,12 @@ pub struct Field {
     pub number: u8,
     pub start: usize,
     pub len: usize,
+}
+
+// Where a run of strings ends, with 0; or 12 and where the one that passes the end begins.
+pub struct Walk {
+    pub number: u8,
+    pub place: usize,
 }
 
 // The string at the front of an input: 0 with its body and what follows it, or 12.
@@ -69,17 +75,22 @@ pub fn part_of(s: &[u8], p: Part) -> &[u8]
 }
 
 // Bytes as parameters: their range is known where they are added up.
-fn join(a: u8, b: u8, c: u8, d: u8) -> usize
+fn join(a: u8, b: u8, c: u8, d: u8) -> u32
     ensures { λ r. ⌜ r ≡ a * 16777216 + b * 65536 + c * 256 + d ⌝ }
 {
-    (a as usize) * 16777216 + (b as usize) * 65536 + (c as usize) * 256 + (d as usize)
+    (a as u32) * 16777216 + (b as u32) * 65536 + (c as u32) * 256 + (d as u32)
 }
 
-// The big-endian number in the four bytes from `at` on.
-fn read_u32(s: &[u8], at: usize) -> usize
-    requires { ⌜ at + 4 ≤ length (now s) ⌝ }
-    ensures { λ r. ⌜ r ≡ number32 (drop at (now (s .entry))) ⌝ }
+// The big-endian number in the four bytes from `at` on; 0 where they pass the end.
+pub fn u32_at(s: &[u8], at: usize) -> u32
+    ensures { λ r. ⌜ r ≡ numberAt (now (s .entry)) at ⌝ }
 {
+    if s.len() < at {
+        return 0;
+    }
+    if s.len() - at < 4 {
+        return 0;
+    }
     join(s[at], s[at + 1], s[at + 2], s[at + 3])
 }
 
@@ -102,7 +113,7 @@ pub fn field_at(s: &[u8], at: usize) -> Field
             len: 0,
         };
     }
-    let n = read_u32(s, at);
+    let n = u32_at(s, at) as usize;
     if n <= s.len() - at - 4 {
         Field {
             number: 0,
@@ -116,6 +127,23 @@ pub fn field_at(s: &[u8], at: usize) -> Field
             len: 0,
         }
     }
+}
+
+// Passes over k strings, the first of which begins at `at`.
+pub fn skip_strings(s: &[u8], at: usize, k: usize) -> Walk
+    ensures { λ r. ⌜ r ≡ walk (now (s .entry)) at k ⌝ }
+{
+    let mut place = at;
+    let mut left = k;
+    while 0 < left {
+        let f = field_at(s, place);
+        if f.number != 0 {
+            return Walk { number: 12, place };
+        }
+        place = f.start + f.len;
+        left -= 1;
+    }
+    Walk { number: 0, place }
 }
 
 // The string at the front of s, and what follows it.

@@ -1,10 +1,19 @@
+-- `wire::u32_at` meets its contract. Assumes nothing.
 use borrow.Author.Needs.{needs}
-use mathlib.Core.Path.{_≡_, sym, _∙_}
-use native.Mathlib.Nat.{add-zero}
-use lib.Seq.{getD-drop}
+use native.Mathlib.Omega.{arith}
 use denote.Ref.{now}
-use Rattle.wire.proofs.read_u32.Statement.{statement}
-use Rattle.wire.proofs.read_u32.Tie as tie
+use Rattle.wire.proofs.StringLaws.{number-past, number-read}
+use Rattle.wire.proofs.u32_at.Statement.{statement}
+use Rattle.wire.proofs.u32_at.Tie as tie
+
+returns : tie.Need-returns
+returns c = let a = c .before .before .args in number-past (now (a .s)) (a .at) (omega arith)
+
+sub-if2 : tie.Need-sub-if2
+sub-if2 c = search needs
+
+returns-2 : tie.Need-returns-2
+returns-2 c = let a = c .before .before .before .args in number-past (now (a .s)) (a .at) (omega arith)
 
 shared-slice-read-join : tie.Need-shared-slice-read-join
 shared-slice-read-join c = search needs
@@ -30,13 +39,17 @@ shared-slice-read-join-4 c = search needs
 join-requires : tie.Need-join-requires
 join-requires c κs = search needs
 
-returns : tie.Need-returns
-returns c = c .join .ensures ∙ sym (simp (getD-drop, add-zero))
+returns-3 : tie.Need-returns-3
+returns-3 c =
+    let a = c .before .before .before .before .before .before .before .before .args in number-read (now (a .s)) (a .at) _ (omega arith) (c .join .ensures)
 
-pub read-u32-spec : {M : Type 1} → statement M
-read-u32-spec =
+pub u32-at-spec : {M : Type 1} → statement M
+u32-at-spec =
     tie.close
     (tie.spec
+    returns
+    sub-if2
+    returns-2
     shared-slice-read-join
     add-join
     shared-slice-read-join-2
@@ -45,4 +58,4 @@ read-u32-spec =
     add-join-3
     shared-slice-read-join-4
     join-requires
-    returns)
+    returns-3)
