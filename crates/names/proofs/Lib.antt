@@ -1,0 +1,3 @@
+pub mod NameLaws
+pub mod CursorLaws
+pub mod Run

@@ -1,0 +1,48 @@
+-- A name-list as a list of names (RFC 4251, section 5): empty, or names parted by single commas. Stricter than the RFC, as document 01
+-- says: a name has at most 64 bytes. Assumes nothing.
+use Prim.Native.Nat.{ℕ}
+use mathlib.Core.List.{List, [], _∷_}
+use mathlib.Core.Bool.{Bool, true, cond, not, _&&_}
+use lib.ListN.{length}
+use lib.Dec.{leb, eqb}
+
+-- a byte of a name: 33 to 126, no comma
+abbrev pub nameByte : ℕ → Bool
+nameByte b = leb 33 b && leb b 126 && not (eqb b 44)
+
+-- the test holds of every element
+abbrev pub every : {A : Type 0} → (A → Bool) → List A → Bool
+every f [] = true
+every f (a ∷ l) = f a && every f l
+
+-- a name: 1 to 64 such bytes
+unfoldable pub goodName : List ℕ → Bool
+goodName n = leb 1 (length n) && leb (length n) 64 && every nameByte n
+
+-- what stands ahead of the first comma
+abbrev pub firstName : List ℕ → List ℕ
+firstName [] = []
+firstName (b ∷ l) = cond (eqb b 44) [] (b ∷ firstName l)
+
+-- what stands behind each comma, up to the next
+abbrev pub laterNames : List ℕ → List (List ℕ)
+laterNames [] = []
+laterNames (b ∷ l) = cond (eqb b 44) (firstName l ∷ laterNames l) (laterNames l)
+
+-- what the commas part, good names or bad; `a,` has an empty one at its end
+abbrev pub parted : List ℕ → List (List ℕ)
+parted l = firstName l ∷ laterNames l
+
+-- the names of a list: none if it is empty
+abbrev pub namesOf : List ℕ → List (List ℕ)
+namesOf [] = []
+namesOf (b ∷ l) = parted (b ∷ l)
+
+-- a list whose names are all good
+abbrev pub goodList : List ℕ → Bool
+goodList l = every goodName (namesOf l)
+
+-- the names ahead of the first bad one
+abbrev pub upToBad : List (List ℕ) → List (List ℕ)
+upToBad [] = []
+upToBad (n ∷ ns) = cond (goodName n) (n ∷ upToBad ns) []
