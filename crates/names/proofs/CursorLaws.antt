@@ -11,7 +11,7 @@ use borrow.Author.Tests.{le-leb, lt-leb, leb-true, ltb-true, ltb-false, eqb-true
 use Rattle.wire.specs.Parts.{part, nothing, bytesAt}
 use Rattle.wire.specs.declared.Part.{Part}
 use Rattle.wire.proofs.StringLaws.{and-true}
-use Rattle.names.specs.Names.{every, goodName, firstName, laterNames, parted, namesOf, upToBad}
+use Rattle.names.specs.Names.{every, goodName, goodList, firstName, laterNames, parted, namesOf, upToBad}
 use Rattle.names.specs.Cursor.{done, cursorOf, ahead, yield, nextName, badName, namesCause}
 use Rattle.names.specs.declared.Cursor.{Cursor}
 use Rattle.names.specs.declared.Next.{Next}
@@ -141,7 +141,7 @@ found s c r e f = by-list (ahead s c) refl e
       where
         by-test : (t : Bool) → goodName n ≡ t
             → r ≡ cond t (record { number = 0; found = true; name = part (c .at) (length n); cursor = record { at = c .at + length n + 1; end = c .end } })
-                (record { number = 19; found = false; name = nothing; cursor = c })
+            (record { number = 19; found = false; name = nothing; cursor = c })
             → Found s c r
         by-test true g p =
             let w = ahead-within s c n ns a in
@@ -176,7 +176,7 @@ stopped s c r e f = by-list (ahead s c) e
       where
         by-test : (t : Bool)
             → r ≡ cond t (record { number = 0; found = true; name = part (c .at) (length n); cursor = record { at = c .at + length n + 1; end = c .end } })
-                (record { number = 19; found = false; name = nothing; cursor = c })
+            (record { number = 19; found = false; name = nothing; cursor = c })
             → (r .number ≡ cond (t && every goodName ns) 0 19) × (cond t (n ∷ upToBad ns) [] ≡ []) × (r .name ≡ nothing) × (r .cursor ≡ c)
         by-test true p = absurd (false≢true (sym f ∙ ap (λ (x : Next). x .found) p))
         by-test false p = (ap (λ (x : Next). x .number) p, refl, ap (λ (x : Next). x .name) p, ap (λ (x : Next). x .cursor) p)
@@ -210,3 +210,22 @@ ahead-list s p h = by-test (eqb (p .len) 0) refl
         ahead-is s (record { at = p .start; end = p .start + p .len }) h (omega arith)
         ∙ ap (λ (k : ℕ). parted (take k (drop (p .start) s))) m
         ∙ sym (names-some (bytesAt s p) (some (p .len) (length (bytesAt s p)) z n))
+
+-- ---- goodList
+
+pub good-none : (s : List ℕ) → length s ≡ 0 → true ≡ goodList s
+good-none [] h = refl
+good-none (a ∷ s) h = let w : ⊥ = omega arith in absurd w
+
+-- a list that a cursor over all of it judges
+pub good-judged : (s : List ℕ) (k : ℕ) → (length s ≡ 0 → ⊥) → k ≡ namesCause s (record { at = 0; end = length s }) → eqb k 0 ≡ goodList s
+unfolding namesCause
+good-judged s k h e =
+    let a : ahead s (record { at = 0; end = length s }) ≡ parted s =
+    ahead-is s (record { at = 0; end = length s }) (omega arith) (omega arith) ∙ ap parted (take-all (length s - 0) s (omega arith)) in
+    let n = names-some s (some (length s) (length s) h refl) in
+    ap (λ (j : ℕ). eqb j 0) (e ∙ ap badName (a ∙ sym n)) ∙ by-test (goodList s)
+  where
+    by-test : (t : Bool) → eqb (cond t 0 19) 0 ≡ t
+    by-test true = refl
+    by-test false = refl

@@ -39,13 +39,13 @@ step s c false f k =
 run-ahead : (s : List ℕ) (m : ℕ) (c : Cursor) → length (ahead s c) ≤ m → Run s c (upToBad (ahead s c)) (namesCause s c)
 run-ahead s zero c h =
     step s c (nextName s c .found) refl λ f.
-        let g = found s c (nextName s c) refl f in
-        let w : ⊥ = omega (arith, ap length (g .was)) in
-        absurd w
+    let g = found s c (nextName s c) refl f in
+    let w : ⊥ = omega (arith, ap length (g .was)) in
+    absurd w
 run-ahead s (suc m) c h =
     step s c (nextName s c .found) refl λ f.
-        let g = found s c (nextName s c) refl f in
-        run-ahead s m (nextName s c .cursor) (omega (arith, ap length (g .was), ap length (g .left)))
+    let g = found s c (nextName s c) refl f in
+    run-ahead s m (nextName s c .cursor) (omega (arith, ap length (g .was), ap length (g .left)))
 
 -- the run over the list that stands at a place
 pub run-list : (s : List ℕ) (p : Part) → p .start + p .len ≤ length s

@@ -1,10 +1,9 @@
 // The SSH name-list (RFC 4251, section 5): names parted by single commas, read one at a time by a cursor that goes by value.
 use wire::Part;
-
 ghost use mathlib.Core.Path.{_≡_};
 ghost use Prim.Native.Nat.{_+_, _-_, _≤_};
 ghost use lib.ListN.{length, take, drop};
-ghost use Rattle.names.specs.Names.{goodName, firstName};
+ghost use Rattle.names.specs.Names.{goodName, goodList, firstName};
 ghost use Rattle.names.specs.Cursor.{nextName, namesCause};
 
 // A place in a list: the next name begins at `at`, and the list ends at `end`. Behind the last name `at` is past `end`, so that the
@@ -120,4 +119,21 @@ pub fn judge_names(s: &[u8], c: Cursor) -> u8
         let next = n.cursor;
         at = next;
     }
+}
+
+// Whether s is a name-list: empty, or good names parted by single commas.
+pub fn good_list(s: &[u8]) -> bool
+    ensures { λ r. ⌜ r ≡ goodList (now (s .entry)) ⌝ }
+{
+    if s.len() == 0 {
+        return true;
+    }
+    judge_names(
+        s,
+        Cursor {
+            at: 0,
+            end: s.len(),
+        },
+    )
+        == 0
 }

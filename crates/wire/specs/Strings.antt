@@ -30,6 +30,11 @@ string body =
     -- byte[length]
     ++ body
 
+-- strings with these bodies, one after another
+abbrev pub strings : List (List ℕ) → List ℕ
+strings [] = []
+strings (b ∷ bs) = string b ++ strings bs
+
 -- whether a whole string stands at the front: neither its four length bytes nor its body pass the end
 unfoldable pub whole : List ℕ → Bool
 whole s = leb 4 (length s) && leb (4 + number32 s) (length s)

@@ -13,12 +13,16 @@ use Rattle.names.proofs.name_end.Tie as tie
 abbrev Inv-loop : tie.InvT-loop
 Inv-loop s at end i₀ i =
     (at ≤ i) × (i ≤ end) × (i + length (firstName (take (end - i) (drop i s))) ≡ at + length (firstName (take (end - at) (drop at s))))
+
 abbrev μ-loop : tie.MeasureT-loop
 μ-loop s at end i₀ i = end - i
+
 loop-holds : tie.Need-loop-holds Inv-loop μ-loop
 loop-holds c = (omega arith, omega arith, refl)
+
 shared-slice-read-if1 : tie.Need-shared-slice-read-if1 Inv-loop μ-loop
 shared-slice-read-if1 c = omega arith
+
 returns : tie.Need-returns Inv-loop μ-loop
 returns c =
     let l = c .before .before .before in
@@ -28,10 +32,13 @@ returns c =
     rw (text-cons s i (l .before .args .end) (omega arith) (omega arith), c .if1 .taken) in
     let e : i ≡ i + length (firstName (take (l .before .args .end - i) (drop i s))) = omega arith in
     e ∙ l .loop .inv .2
+
 add-i : tie.Need-add-i Inv-loop μ-loop
 add-i c = omega arith
+
 loop-less : tie.Need-loop-less Inv-loop μ-loop
 loop-less c = omega arith
+
 loop-again : tie.Need-loop-again Inv-loop μ-loop
 loop-again c =
     let l = c .before .before .before in
@@ -40,6 +47,7 @@ loop-again c =
     let z : length (firstName (take (l .before .args .end - i) (drop i s))) ≡ suc (length (firstName (take (l .before .args .end - (i + 1)) (drop (i + 1) s)))) =
     rw (text-cons s i (l .before .args .end) (omega arith) (omega arith), ne-eqb (getD s i 0) 44 (c .if1 .left)) in
     (omega arith, omega arith, omega (arith, l .loop .inv .2))
+
 returns-2 : tie.Need-returns-2 Inv-loop μ-loop
 returns-2 c =
     let l = c .before in
@@ -47,6 +55,7 @@ returns-2 c =
     let z : length (firstName (take (l .before .args .end - l .loop .i) (drop (l .loop .i) s))) ≡ 0 = rw (text-none s (l .loop .i) (l .before .args .end) (omega arith)) in
     let f : l .loop .i ≡ l .loop .i + length (firstName (take (l .before .args .end - l .loop .i) (drop (l .loop .i) s))) = omega arith in
     f ∙ l .loop .inv .2
+
 pub name-end-spec : {M : Type 1} → statement M
 name-end-spec =
     tie.close

@@ -17,9 +17,11 @@ use Rattle.names.proofs.next_name.Tie as tie
 returns : tie.Need-returns
 returns c =
     let a = c .before .before .args in no-name (now (a .s)) (a .c) (ahead-past (now (a .s)) (a .c) (c .if1 .taken))
+
 returns-2 : tie.Need-returns-2
 returns-2 c =
     let a = c .before .before .before .args in no-name (now (a .s)) (a .c) (ahead-end (now (a .s)) (a .c) (c .if2 .taken))
+
 name-end-requires : tie.Need-name-end-requires
 name-end-requires c κs = search needs
 
@@ -49,6 +51,7 @@ part-good-name-start c = omega (arith, c .name-end .ensures)
 
 part-good-name-end : tie.Need-part-good-name-end
 part-good-name-end c = omega (arith, fits c)
+
 good-name-requires : tie.Need-good-name-requires
 good-name-requires c κs = search needs
 
@@ -67,6 +70,7 @@ sub-t15 c = omega (arith, c .before .before .before .name-end .ensures)
 
 add-t17 : tie.Need-add-t17
 add-t17 c = omega (arith, fits (c .before .before .before))
+
 returns-3 : tie.Need-returns-3
 unfolding text name
 returns-3 c =
@@ -74,11 +78,13 @@ returns-3 c =
     let a = d .before .before .before .before .args in
     let e : a .c .at + length (name d) ≡ d .name-end .result = sym (d .name-end .ensures) in
     name-found (now (a .s)) (a .c) (name d) (laterNames (text d)) (names d) (is-good (c .before) ∙ c .if3 .taken) _ (sym e)
+
 returns-4 : tie.Need-returns-4
 returns-4 c =
     let d = c .before .before .before in
     let a = d .before .before .before .before .args in
     name-bad (now (a .s)) (a .c) (name d) (laterNames (text d)) (names d) (is-good (c .before) ∙ c .if3 .left)
+
 pub next-name-spec : {M : Type 1} → statement M
 next-name-spec =
     tie.close
