@@ -3,6 +3,7 @@ use Prim.Native.Nat.{ℕ, _≤_}
 use mathlib.Core.Path.{_≡_, refl, sym, ap, _∙_}
 use mathlib.Core.List.{List}
 use mathlib.Core.Bool.{Bool, true, false, cond, _&&_}
+use native.Mathlib.Omega.{arith}
 use lib.ListN.{length, getD}
 use lib.Dec.{leb, eqb}
 use borrow.Author.Tests.{eqb-true, eq-eqb, le-leb}
@@ -40,3 +41,22 @@ module _ (n : ℕ) (v : List ℕ) (a : 4 ≤ n) (b : n ≤ 8) (one : 1 ≤ n) (n
 
   pub s-lead : formed (rowOf n .s) v ≡ true → getD v (rowOf n .s .classical) 0 ≡ 4
   s-lead f = formed-sound (rowOf n .s) v f .1 (sound n one nine .s-point ∙ point)
+
+-- a length that fits is at most the shape's own
+pub length-most : (h : Shape) (n : ℕ) → lengthFits h n ≡ true → n ≤ h .len
+unfolding lengthFits
+length-most h n e = let q = eqb-true n (h .len) e in omega arith
+
+-- and a formed value has such a length
+pub formed-length : (h : Shape) (v : List ℕ) → formed h v ≡ true → lengthFits h (length v) ≡ true
+unfolding formed
+formed-length h v e = and-true (lengthFits h (length v)) (leadFits h v) e .0
+
+-- a method's values are never empty
+pub c-least : (n m : ℕ) → 1 ≤ n → n ≤ 9 → lengthFits (rowOf n .c) m ≡ true → 1 ≤ m
+unfolding lengthFits
+c-least n m a b e = let q = eqb-true m (rowOf n .c .len) e in omega (arith, sound n a b .c-least)
+
+pub s-least : (n m : ℕ) → 1 ≤ n → n ≤ 9 → lengthFits (rowOf n .s) m ≡ true → 1 ≤ m
+unfolding lengthFits
+s-least n m a b e = let q = eqb-true m (rowOf n .s .len) e in omega (arith, sound n a b .s-least)

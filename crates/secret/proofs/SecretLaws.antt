@@ -10,7 +10,7 @@ use lib.ListN.{length, getD, take, drop, replicate, length-drop, length-replicat
 use lib.Seq.{drop-cons, drop-at}
 use lib.Dec.{ltb, eqb, eqb·suc-zero}
 use lib.IntN.{pos}
-use borrow.Author.Tests.{le-leb, lt-leb, ltb-true, lt-ltb, le-ltb, ne-eqb}
+use borrow.Author.Tests.{le-leb, lt-leb, ltb-true, ltb-false, eqb-false, lt-ltb, le-ltb, ne-eqb}
 use Rattle.wire.specs.Bytes.{zeros, over, laid}
 use Rattle.wire.specs.Strings.{bytes32, string}
 use Rattle.wire.proofs.ByteLaws.{over-over, laid-fits, length-over}
@@ -78,13 +78,34 @@ module _ (x : List ℕ) (k : ℕ) (z : k ≡ leadingZeros x) where
   pub k-high : k < length x → 128 ≤ getD x k 0 → shortest (0 ∷ x) ≡ 0 ∷ drop k x
   k-high h t = let d = drop-cons x k 0 h in body-is ∙ ap positive d ∙ rw (le-ltb (getD x k 0) 128 t) (ap (λ (y : List ℕ). 0 ∷ y) (sym d))
 
+differ : (a b : ℕ) → a ≤ b → (a ≡ b → ⊥) → a < b
+differ a b h n = by-test (ltb a b) refl
+  where
+    by-test : (t : Bool) → ltb a b ≡ t → a < b
+    by-test true e = ltb-true a b e
+    by-test false e = let q = ltb-false a b e in let z : a ≡ b = omega arith in absurd (n z)
+
+-- an X that is not all zero has a body
+pub k-some : (x : List ℕ) → eqb (leadingZeros x) (length x) ≡ false → 1 ≤ length (shortest (0 ∷ x))
+k-some x e = by-test (ltb (getD x k 0) 128) refl
+  where
+    k : ℕ
+    k = leadingZeros x
+
+    less : k < length x
+    less = differ (leadingZeros x) (length x) (zeros-within x) (eqb-false (leadingZeros x) (length x) e)
+
+    by-test : (t : Bool) → ltb (getD x k 0) 128 ≡ t → 1 ≤ length (shortest (0 ∷ x))
+    by-test true p = omega (arith, ap length (k-low x k refl less (ltb-true (getD x k 0) 128 p)), length-drop k x, less)
+    by-test false p = omega (arith, ap length (k-high x k refl less (ltb-false (getD x k 0) 128 p)))
+
 -- K's number is X read as an unsigned number, the highest byte first
 pub k-number : (x : List ℕ) → value (shortest (0 ∷ x)) ≡ pos (unsigned x)
 k-number x = value-shortest (0 ∷ x) ∙ value-unsigned x
 
 -- ---- kept
 
-drop-zeros : (n m : ℕ) → n ≤ m → drop n (zeros m) ≡ zeros (m - n)
+pub drop-zeros : (n m : ℕ) → n ≤ m → drop n (zeros m) ≡ zeros (m - n)
 drop-zeros n m h =
     let e : n + (m - n) ≡ m = omega arith in
     ap (λ (k : ℕ). drop n (zeros k)) (sym e)

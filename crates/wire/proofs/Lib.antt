@@ -4,3 +4,5 @@ pub mod PartLaws
 pub mod StringLaws
 pub mod WriterLaws
 pub mod RoundTrip
+pub mod WalkLaws
+pub mod StringsLaws

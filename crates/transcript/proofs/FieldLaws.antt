@@ -1,0 +1,153 @@
+-- Laws for the proofs of the functions: a field that is missing, one turn of each loop, and what is laid ahead. Assumes nothing.
+use Prim.Native.Nat.{ℕ, suc, _+_, _-_, _≤_, _<_}
+use mathlib.Core.Path.{_≡_, refl, sym, ap, _∙_}
+use mathlib.Core.List.{List, [], _∷_, _++_, append-assoc, append-nil}
+use mathlib.Core.Bool.{Bool, true, false, cond}
+use native.Mathlib.Omega.{arith}
+use native.Mathlib.Nat.{add-assoc, add-zero, add-suc}
+use lib.ListN.{length, getD, take, drop, set, length-append, length-take, length-drop, drop-of-length-le, take-append-drop, List·getD-append}
+use lib.Seq.{drop-at, take-take, take-append-le, take-suc, set-at, drop-cons, getD-take, getD-drop, length-take-le, drop-length}
+use lib.Dec.{leb}
+use borrow.Author.Fill.{fill-more}
+use borrow.Author.Tests.{le-leb, lt-leb, eq-eqb, ne-eqb}
+use Rattle.wire.specs.Bytes.{zeros, over, laid}
+use Rattle.wire.proofs.ByteLaws.{length-over, over-over, laid-fits}
+use Rattle.transcript.specs.Fields.{field, fieldLength, around}
+use Rattle.transcript.proofs.RoomLaws.{length-field}
+
+-- ---- a field, missing or not
+
+-- a missing field is nothing
+pub field-none : (f : List ℕ) → length f ≡ 0 → field f ≡ []
+unfolding field
+field-none [] h = refl
+field-none (b ∷ f) h = let w : ⊥ = omega arith in absurd w
+
+-- and takes no bytes
+pub fieldLength-none : (n : ℕ) → n ≡ 0 → fieldLength n ≡ 0
+unfolding fieldLength
+fieldLength-none n h = rw (eq-eqb n 0 h)
+
+-- one that is there takes four more than it has
+pub fieldLength-some : (n : ℕ) → (n ≡ 0 → ⊥) → fieldLength n ≡ 4 + n
+unfolding fieldLength
+fieldLength-some n h = rw (ne-eqb n 0 h)
+
+-- nothing laid
+pub over-nil : (l : List ℕ) (at : ℕ) → over l at [] ≡ l
+unfolding over
+over-nil l at = simp (append-nil, add-zero, take-append-drop)
+
+-- the same, fitting or not
+pub laid-nil : (l : List ℕ) (at : ℕ) → laid l at [] ≡ l
+unfolding laid
+laid-nil l at = by-test (leb (at + 0) (length l))
+  where
+    by-test : (t : Bool) → cond t (over l at []) l ≡ l
+    by-test true = over-nil l at
+    by-test false = refl
+
+-- a missing field laid
+pub laid-missing : (l : List ℕ) (at : ℕ) (f : List ℕ) → length f ≡ 0 → l ≡ laid l at (field f)
+laid-missing l at f h = sym (ap (laid l at) (field-none f h) ∙ laid-nil l at)
+
+-- ---- zeros from the front
+
+-- i bytes are wiped
+pub wipe-turn : (r d : List ℕ) (i : ℕ) → d ≡ zeros i ++ drop i r → i < length r → set d i 0 ≡ zeros (i + 1) ++ drop (i + 1) r
+wipe-turn r d i e h = rw e (fill-more i 0 r h)
+
+-- all are
+pub wiped : (r d : List ℕ) (i : ℕ) → d ≡ zeros i ++ drop i r → i ≡ length r → d ≡ zeros (length r)
+wiped r d i e h = e ∙ rw (h, drop-length, append-nil)
+
+-- ---- bytes moved up, the last of them first
+
+-- i of them are still to move
+unfoldable pub shifted : List ℕ → ℕ → ℕ → ℕ → ℕ → List ℕ
+shifted r at len by i = take (at + by + i) r ++ drop i (take len (drop at r)) ++ drop (at + by + len) r
+
+-- at first all of them
+pub shifted-none : (r : List ℕ) (at len by : ℕ) → at + by + len ≤ length r → r ≡ shifted r at len by len
+unfolding shifted
+shifted-none r at len by h =
+    let e : length (take len (drop at r)) ≤ len = simp length-take (omega arith) in
+    simp (drop-of-length-le (take len (drop at r)) e, append-nil, take-append-drop)
+
+-- one more is moved
+pub shifted-turn : (r d : List ℕ) (at len by i : ℕ) → d ≡ shifted r at len by (suc i) → at + by + len ≤ length r → i < len
+    → set d (at + by + i) (getD d (at + i) 0) ≡ shifted r at len by i
+unfolding shifted
+shifted-turn r d at len by i e h l =
+    let m : List ℕ = take len (drop at r) in
+    let rest : List ℕ = drop (suc i) m ++ drop (at + by + len) r in
+    let p : List ℕ = take (at + by + i) r in
+    let lm : i < length m = simp (length-take, length-drop) (omega arith) in
+    let lp : length p ≡ at + by + i = length-take-le (at + by + i) r (omega arith) in
+    -- d, split at the byte that is written
+    let s : d ≡ p ++ getD r (at + by + i) 0 ∷ rest = e ∙ rw (add-suc (at + by) i, take-suc r (at + by + i) 0 (omega arith)) (simp append-assoc) in
+    -- the byte that is read
+    let lt : at + i < length (take (suc (at + by + i)) r) = simp length-take (omega arith) in
+    let y : getD d (at + i) 0 ≡ getD m i 0 =
+    rw (e, add-suc (at + by) i, append-assoc) (List·getD-append (take (suc (at + by + i)) r) _ 0 (at + i) lt
+    ∙ getD-take (suc (at + by + i)) r (at + i) 0 (omega arith))
+    ∙ sym (getD-take len (drop at r) i 0 l ∙ getD-drop at r i 0) in
+    rw (y, s) (set-at p _ rest _ (at + by + i) lp ∙ rw (drop-cons m i 0 lm) (simp append-assoc))
+
+-- at the end none is left to move
+pub shifted-all : (r d : List ℕ) (at len by i : ℕ) → d ≡ shifted r at len by i → i ≡ 0 → at + by + len ≤ length r
+    → d ≡ over r (at + by) (take len (drop at r))
+unfolding shifted over
+shifted-all r d at len by i e z h =
+    let n : length (take len (drop at r)) ≡ len = simp (length-take, length-drop) (omega arith) in
+    e ∙ rw (z, n, add-zero)
+
+-- ---- laid ahead of what was laid
+
+-- x laid right ahead of y
+pub over-before : (r : List ℕ) (at : ℕ) (x y : List ℕ) → at + length x ≤ length r → over (over r (at + length x) y) at x ≡ over r at (x ++ y)
+unfolding over
+over-before r at x y h =
+    let p : List ℕ = take (at + length x) r in
+    let l : length p ≡ at + length x = length-take-le (at + length x) r h in
+    let d : List ℕ = drop (at + length x + length y) r in
+    let t : take at (p ++ y ++ d) ≡ take at r = rw append-assoc (take-append-le at p _ (omega arith) ∙ take-take at (at + length x) r (omega arith)) in
+    let e : drop (at + length x) (p ++ y ++ d) ≡ y ++ drop (at + length (x ++ y)) r =
+    rw (append-assoc, drop-at p (y ++ d) (at + length x) l, length-append, add-assoc) in
+    rw (t, e) (simp append-assoc)
+
+-- ---- around
+
+-- too long for the room
+pub around-kept : (room : List ℕ) (at len : ℕ) (ahead behind : List ℕ)
+    → length room < at + fieldLength (length ahead) + len + fieldLength (length behind) → room ≡ around room at len ahead behind
+unfolding around
+around-kept room at len ahead behind h =
+    let n = length-field ahead in
+    let m = length-field behind in
+    rw (lt-leb (at + length (field ahead) + len + length (field behind)) (length room) (omega arith))
+
+-- moved up, then one field laid ahead and one behind
+pub around-laid : (room : List ℕ) (at len a : ℕ) (ahead behind r1 r2 r3 : List ℕ)
+    → a ≡ fieldLength (length ahead) → at + a + len + fieldLength (length behind) ≤ length room
+    → r1 ≡ over room (at + a) (take len (drop at room)) → r2 ≡ laid r1 at (field ahead) → r3 ≡ laid r2 (at + a + len) (field behind)
+    → r3 ≡ around room at len ahead behind
+unfolding around
+around-laid room at len a ahead behind r1 r2 r3 e h h1 h2 h3 =
+    let x : List ℕ = field ahead in
+    let m : List ℕ = take len (drop at room) in
+    let y : List ℕ = field behind in
+    let nx : length x ≡ a = length-field ahead ∙ sym e in
+    let ny = length-field behind in
+    let nm : length m ≡ len = simp (length-take, length-drop) (omega arith) in
+    let nxm : length (x ++ m) ≡ length x + length m = length-append x m in
+    let l1 : length (over room (at + length x) m) ≡ length room = length-over room (at + length x) m (omega arith) in
+    let l2 : length (over room at (x ++ m)) ≡ length room = length-over room at (x ++ m) (omega arith) in
+    let at2 : at + a + len ≡ at + length (x ++ m) = omega arith in
+    let e1 : r1 ≡ over room (at + length x) m = h1 ∙ ap (λ (k : ℕ). over room (at + k) m) (sym nx) in
+    let e2 : r2 ≡ over room at (x ++ m) =
+    h2 ∙ ap (λ (r : List ℕ). laid r at x) e1 ∙ laid-fits (over room (at + length x) m) at x (omega arith) ∙ over-before room at x m (omega arith) in
+    let e3 : r3 ≡ over room at (x ++ m ++ y) =
+    h3 ∙ (λ i. laid (e2 i) (at2 i) y) ∙ laid-fits (over room at (x ++ m)) (at + length (x ++ m)) y (omega arith)
+    ∙ over-over room at (x ++ m) y (omega arith) in
+    e3 ∙ rw (le-leb (at + length x + len + length y) (length room) (omega arith))
