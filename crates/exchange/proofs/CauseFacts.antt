@@ -1,0 +1,180 @@
+-- What an accepted call tells of the fields that it brings. Assumes nothing.
+use Prim.Native.Nat.{ℕ, _+_, _-_, _≤_, _<_}
+use mathlib.Core.Path.{_≡_, refl, sym, ap, _∙_}
+use mathlib.Core.List.{List, [], _∷_, _++_}
+use mathlib.Core.Bool.{Bool, true, false, cond, not, _&&_, _||_, false≢true}
+use native.Mathlib.Omega.{arith}
+use lib.ListN.{length, getD, drop}
+use lib.Dec.{leb, ltb, eqb}
+use borrow.Author.Tests.{eqb-true, leb-true, le-leb, eq-eqb, ltb-false}
+use Rattle.wire.specs.Bytes.{zeros, onto}
+use Rattle.wire.specs.Strings.{number32, string}
+use Rattle.wire.proofs.CauseLaws.{if-none, unless-none, orElse-none}
+use Rattle.wire.proofs.StringLaws.{and-true, length-string}
+use Rattle.wire.proofs.RoundTrip.{number32-string}
+use Rattle.mpint.specs.Mpint.{shortest}
+use Rattle.mpint.proofs.MpintLaws.{length-shortest}
+use Rattle.methods.specs.Rows.{rowOf, mostBy, kMost}
+use Rattle.methods.specs.Form.{lengthFits, formed}
+use Rattle.methods.specs.declared.KForm.{KForm}
+use Rattle.methods.specs.declared.KForm.the-variants.{Mpint, Digest}
+use Rattle.methods.specs.declared.Method.{Method}
+use Rattle.methods.proofs.MethodLaws.{Sound, sound}
+use Rattle.methods.proofs.FormLaws.{formed-length}
+use Rattle.messages.specs.Messages.{within, messageCause, fieldOf}
+use Rattle.messages.proofs.MessageLaws.{within-least, within-most}
+use Rattle.secret.specs.Secret.{kSize, kBytes, leadingZeros}
+use Rattle.secret.proofs.SecretLaws.{k-some}
+use Rattle.exchange.specs.Causes.{roomLeast, versionOk, plain, kexinitOk, blobOk, methodOk, roleOk, startCause, ownCCause, initCause, replyCause, xOk, hybrid, present, kemOk, digestFor, digestOk, ownOk, allZero, xBad, kemBad, secretCause, kOf}
+use Rattle.exchange.specs.Record.{kBodyFits}
+use Rattle.exchange.specs.Steps.{kRecord}
+use Rattle.exchange.specs.declared.Classical.{Classical}
+use Rattle.exchange.specs.declared.Classical.the-variants.{Failed as NoX, Given}
+use Rattle.exchange.specs.declared.Kem.{Kem}
+use Rattle.exchange.specs.declared.Kem.the-variants.{Absent, Failed as NoKem, Done}
+
+-- ---- facts as records, so that what they speak of is found from them
+
+pub record Base (m : ℕ) (vc vs ic is : List ℕ) : Type 0 where
+  pub method-ok : methodOk m ≡ true
+  pub vc-ok : within 1 253 (length vc) ≡ true
+  pub vs-ok : within 1 253 (length vs) ≡ true
+  pub ic-ok : within 1 4096 (length ic) ≡ true
+  pub is-ok : within 1 4096 (length is) ≡ true
+
+pub record SizedC (m : ℕ) (c : List ℕ) : Type 0 where
+  pub ok : lengthFits (rowOf m .c) (length c) ≡ true
+
+pub record SizedS (m : ℕ) (s : List ℕ) : Type 0 where
+  pub ok : lengthFits (rowOf m .s) (length s) ≡ true
+
+pub record Blob (ks : List ℕ) : Type 0 where
+  pub ok : blobOk (length ks) ≡ true
+
+pub record Key (m : ℕ) (k : List ℕ) : Type 0 where
+  pub ok : kBodyFits (rowOf m .«k_form») (rowOf m) (number32 (kRecord k)) ≡ true
+  pub most : length k ≤ 4 + kMost (rowOf m)
+
+-- ---- the method
+
+pub method-least : (m : ℕ) → methodOk m ≡ true → 1 ≤ m
+unfolding methodOk
+method-least m e = within-least 1 9 m e
+
+pub method-most : (m : ℕ) → methodOk m ≡ true → m ≤ 9
+unfolding methodOk
+method-most m e = within-most 1 9 m e
+
+pub method-row : (m : ℕ) → methodOk m ≡ true → Sound (rowOf m)
+method-row m e = sound m (method-least m e) (method-most m e)
+
+-- ---- start
+
+pub start-known : (role m : ℕ) (vc vs ic is : List ℕ) (room : ℕ) → startCause role m vc vs ic is room ≡ 0
+    → (roleOk role ≡ true) × (roomLeast ≤ room) × Base m vc vs ic is
+unfolding startCause versionOk kexinitOk
+start-known role m vc vs ic is room z =
+    let a = unless-none (methodOk m && roleOk role) 2 _ (omega arith) z in
+    let b = and-true (methodOk m) (roleOk role) (a .0) in
+    let c = if-none (ltb room roomLeast) 3 _ (omega arith) (a .1) in
+    let d = unless-none _ 4 0 (omega arith) (c .1) .0 in
+    let e3 = and-true (versionOk vc && versionOk vs && kexinitOk ic) (kexinitOk is) d in
+    let e2 = and-true (versionOk vc && versionOk vs) (kexinitOk ic) (e3 .0) in
+    let e1 = and-true (versionOk vc) (versionOk vs) (e2 .0) in (
+      b .1,
+      ltb-false room roomLeast (c .0),
+      record {
+        method-ok = b .0;
+        vc-ok = and-true (within 1 253 (length vc)) (plain vc) (e1 .0) .0;
+        vs-ok = and-true (within 1 253 (length vs)) (plain vs) (e1 .1) .0;
+        ic-ok = and-true (within 1 4096 (length ic)) (eqb (getD ic 0 0) 20) (e2 .1) .0;
+        is-ok = and-true (within 1 4096 (length is)) (eqb (getD is 0 0) 20) (e3 .1) .0;
+      },
+    )
+
+-- ---- C, and K_S with S
+
+pub own-c-sized : (m : ℕ) (c : List ℕ) (out : ℕ) → ownCCause m c out ≡ 0 → SizedC m c
+unfolding ownCCause
+own-c-sized m c out z = record { ok = formed-length (rowOf m .c) c (unless-none (formed (rowOf m .c) c) 4 _ (omega arith) z .0) }
+
+pub init-sized : (m : ℕ) (p : List ℕ) → initCause m p ≡ 0 → (messageCause 30 1 p ≡ 0) × SizedC m (fieldOf p 0)
+unfolding initCause
+init-sized m p z =
+    let a = orElse-none (messageCause 30 1 p) _ z in
+    (a .0, record { ok = unless-none (lengthFits (rowOf m .c) (length (fieldOf p 0))) 14 _ (omega arith) (a .1) .0 })
+
+pub reply-sized : (m : ℕ) (p : List ℕ) → replyCause m p ≡ 0 → (messageCause 31 3 p ≡ 0) × Blob (fieldOf p 0) × SizedS m (fieldOf p 1)
+unfolding replyCause
+reply-sized m p z =
+    let a = orElse-none (messageCause 31 3 p) _ z in
+    let b = unless-none (blobOk (length (fieldOf p 0)) && lengthFits (rowOf m .s) (length (fieldOf p 1)) && blobOk (length (fieldOf p 2))) 14 _ (omega arith) (a .1) .0 in
+    let c = and-true (blobOk (length (fieldOf p 0)) && lengthFits (rowOf m .s) (length (fieldOf p 1))) (blobOk (length (fieldOf p 2))) b .0 in
+    let d = and-true (blobOk (length (fieldOf p 0))) (lengthFits (rowOf m .s) (length (fieldOf p 1))) c in
+    (a .0, record { ok = d .0 }, record { ok = d .1 })
+
+-- ---- the secret
+
+-- the four judgements of an accepted secret step, and that neither primitive is to blame
+pub secret-known : (role m : ℕ) (cl : Classical) (x : List ℕ) (kem : Kem) (d ks s : List ℕ) → secretCause role m cl x kem d ks s ≡ 0
+    → (xOk m cl x ≡ true) × (kemOk m kem ≡ true) × (digestOk m cl kem d ≡ true) × (ownOk role m ks s ≡ true) × (xBad m cl x ≡ false) × (kemBad kem ≡ false)
+unfolding secretCause
+secret-known role m cl x kem d ks s z =
+    let a = unless-none (xOk m cl x && kemOk m kem && digestOk m cl kem d && ownOk role m ks s) 4 _ (omega arith) z in
+    let b3 = and-true (xOk m cl x && kemOk m kem && digestOk m cl kem d) (ownOk role m ks s) (a .0) in
+    let b2 = and-true (xOk m cl x && kemOk m kem) (digestOk m cl kem d) (b3 .0) in
+    let b1 = and-true (xOk m cl x) (kemOk m kem) (b2 .0) in
+    let c = if-none (xBad m cl x) 16 _ (omega arith) (a .1) in
+    (b1 .0, b1 .1, b2 .1, b3 .1, c .0, if-none (kemBad kem) 17 0 (omega arith) (c .1) .0)
+
+-- a server's K_S and S
+pub own-sized : (m : ℕ) (ks s : List ℕ) → ownOk 2 m ks s ≡ true → Blob ks × SizedS m s
+own-sized m ks s e =
+    let a = and-true (blobOk (length ks)) (formed (rowOf m .s) s) e in
+    (record { ok = a .0 }, record { ok = formed-length (rowOf m .s) s (a .1) })
+
+-- K's record begins with K's length
+number32-record : (b : List ℕ) → length b ≤ 4294967295 → number32 (kRecord (string b)) ≡ length b
+unfolding kRecord onto
+number32-record b h = number32-string b (drop (length (string b)) (zeros kSize)) h
+
+-- K by its form, over any sound row
+module _ (r : Method) (row : Sound r) (x d : List ℕ) where
+  mpint-fits : length x ≡ r .«x_len» → r .«zero_check» && allZero x ≡ false
+      → (kBodyFits Mpint r (number32 (kRecord (kBytes Mpint x d))) ≡ true) × (length (kBytes Mpint x d) ≤ 4 + mostBy Mpint (r .«x_len») (r .«digest_len»))
+  mpint-fits l z =
+      let b = length-shortest (0 ∷ x) in
+      let n = number32-record (shortest (0 ∷ x)) (omega (arith, row .x-most)) in
+      let t = length-string (shortest (0 ∷ x)) in (
+        ap (kBodyFits Mpint r) n ∙ rw (le-leb (length (shortest (0 ∷ x))) (r .«x_len» + 1) (omega arith)) (checked (r .«zero_check») z),
+        omega arith,
+      )
+    where
+      checked : (t : Bool) → t && allZero x ≡ false → cond t (leb 1 (length (shortest (0 ∷ x)))) true ≡ true
+      checked true e = le-leb 1 (length (shortest (0 ∷ x))) (k-some x e)
+      checked false e = refl
+
+  digest-fits : length d ≡ r .«digest_len»
+      → (kBodyFits Digest r (number32 (kRecord (kBytes Digest x d))) ≡ true) × (length (kBytes Digest x d) ≤ 4 + mostBy Digest (r .«x_len») (r .«digest_len»))
+  digest-fits l =
+      let n = number32-record d (omega (arith, row .digest-most)) in
+      let t = length-string d in
+      (ap (kBodyFits Digest r) n ∙ eq-eqb (length d) (r .«digest_len») l, omega arith)
+
+  -- by the form, and in a hybrid by the KEM, which must be done
+  by-form : (f : KForm) (n : ℕ) (kem : Kem) → length x ≡ r .«x_len» → r .«zero_check» && allZero x ≡ false
+      → cond (hybrid f) (present kem) (not (present kem)) ≡ true → eqb (length d) (digestFor (Given n) kem (r .«digest_len»)) ≡ true → kemBad kem ≡ false
+      → (kBodyFits f r (number32 (kRecord (kBytes f x d))) ≡ true) × (length (kBytes f x d) ≤ 4 + mostBy f (r .«x_len») (r .«digest_len»))
+  by-form Mpint n kem l z p q b = mpint-fits l z
+  by-form Digest n Absent l z p q b = absurd (false≢true p)
+  by-form Digest n NoKem l z p q b = absurd (false≢true (sym b))
+  by-form Digest n Done l z p q b = digest-fits (eqb-true (length d) (r .«digest_len») q)
+
+-- K of an accepted secret step fits its method
+pub key-sized : (role m : ℕ) (cl : Classical) (x : List ℕ) (kem : Kem) (d ks s : List ℕ) → methodOk m ≡ true → secretCause role m cl x kem d ks s ≡ 0 → Key m (kOf m x d)
+key-sized role m NoX x kem d ks s mo z = absurd (false≢true (sym (secret-known role m NoX x kem d ks s z .4)))
+key-sized role m (Given n) x kem d ks s mo z =
+    let a = secret-known role m (Given n) x kem d ks s z in
+    let lx = and-true (eqb n (rowOf m .«x_len»)) (eqb (length x) (rowOf m .«x_len»)) (a .0) .1 in
+    let k = by-form (rowOf m) (method-row m mo) x d (rowOf m .«k_form») n kem (eqb-true (length x) (rowOf m .«x_len») lx) (a .4) (a .1) (a .2) (a .5) in
+    record { ok = k .0; most = k .1 }

@@ -1,0 +1,5 @@
+pub mod CauseFacts
+pub mod DueLaws
+pub mod HashLaws
+pub mod StepLaws
+pub mod Simulation

@@ -1,0 +1,320 @@
+-- What a step owes at its returns and knows where it is accepted. Assumes nothing.
+use Prim.Native.Nat.{ℕ, zero, suc, _+_, _-_, _≤_, _<_}
+use mathlib.Core.Path.{_≡_, refl, sym, ap, _∙_}
+use mathlib.Core.Logic.{_⊎_, inl, inr, ⊎-elim}
+use mathlib.Core.List.{List, [], _∷_, _++_}
+use mathlib.Core.Bool.{Bool, true, false, cond, _&&_, _||_, false≢true}
+use native.Mathlib.Omega.{arith}
+use lib.ListN.{length, take, drop}
+use lib.Dec.{eqb, leb, ltb}
+use borrow.Author.Tests.{eqb-true, ltb-false, ne-eqb}
+use Rattle.wire.specs.Bytes.{zeros, onto}
+use Rattle.wire.proofs.CauseLaws.{if-none, unless-none}
+use Rattle.wire.proofs.StringLaws.{and-true}
+use Rattle.methods.specs.Rows.{rowOf, kMost}
+use Rattle.methods.specs.Form.{lengthFits}
+use Rattle.methods.specs.declared.Method.{Method}
+use Rattle.methods.proofs.MethodLaws.{Sound}
+use Rattle.methods.proofs.FormLaws.{length-most}
+use Rattle.messages.specs.Messages.{within}
+use Rattle.messages.proofs.MessageLaws.{within-least, within-most}
+use Rattle.transcript.specs.Fields.{field, fieldLength}
+use Rattle.transcript.proofs.RoomLaws.{length-field, fieldLength-most}
+use Rattle.exchange.specs.Causes.{roomLeast, blobOk, methodOk}
+use Rattle.exchange.specs.Record.{ended, clientNext, serverNext, nextStep, hasC, hasS, hasK, cFits, sFits, due}
+use Rattle.exchange.specs.Steps.{Call, stepNo, fedCause, numbered, number, Kind, accepted, refused, fault, kind, byKind, headEnd, fieldsEnd, filled, taken, countOf, secondOf, exchangeAfter, roomAfter, answered, outputAfter, refusedStep, refusedRoom, Small}
+use Rattle.exchange.specs.declared.Stage.{Stage}
+use Rattle.exchange.specs.declared.Stage.the-variants.{Started, CSent, InitRead, ReplyRead, SecretDone, Complete, Failed}
+use Rattle.exchange.specs.declared.Lengths.{Lengths}
+use Rattle.exchange.specs.declared.Exchange.{Exchange}
+use Rattle.exchange.specs.declared.Step.{Step}
+use Rattle.exchange.proofs.CauseFacts.{method-row}
+use Rattle.exchange.proofs.DueLaws.{Fitting, Due, due-known}
+
+-- ---- by the kind of a number
+
+-- where a number is not 0, what an accepted call would have made does not matter
+pub kind-other : {A : Type 0} (n : ℕ) (a b r f : A) → (n ≡ 0 → ⊥) → byKind (kind n) a r f ≡ byKind (kind n) b r f
+unfolding kind
+kind-other n a b r f h = rw (ne-eqb n 0 h) (by-test (leb n 5))
+  where
+    by-test : (t : Bool) → byKind (cond t refused fault) a r f ≡ byKind (cond t refused fault) b r f
+    by-test true = refl
+    by-test false = refl
+
+pub kind-same : {A : Type 0} (n : ℕ) (a r : A) → (n ≡ 0 → ⊥) → byKind (kind n) a r r ≡ r
+unfolding kind
+kind-same n a r h = rw (ne-eqb n 0 h) (by-test (leb n 5))
+  where
+    by-test : (t : Bool) → byKind (cond t refused fault) a r r ≡ r
+    by-test true = refl
+    by-test false = refl
+
+pub kind-zero : kind 0 ≡ accepted
+unfolding kind
+kind-zero = refl
+
+module _ (e : Exchange) (room : List ℕ) (q : Call) where
+  -- a refused step's answer and room, by its number alone
+  pub step-refused : (n : ℕ) → n ≡ number e room q → (n ≡ 0 → ⊥) → (refusedStep n e ≡ answered e room q) × (refusedRoom n room ≡ roomAfter e room q)
+  unfolding answered exchangeAfter roomAfter
+  step-refused n m h =
+      let z : number e room q ≡ 0 → ⊥ = λ y. h (m ∙ y) in
+      let c = kind-same (number e room q) (countOf e room q) 0 z in
+      let d = kind-same (number e room q) (secondOf e q) 0 z in
+      let x : byKind (kind n) e e (ended n (e .role) (e .method)) ≡ byKind (kind (number e room q)) (taken e q) e (ended (number e room q) (e .role) (e .method)) =
+      (λ i. byKind (kind (m i)) e e (ended (m i) (e .role) (e .method)))
+      ∙ kind-other (number e room q) e (taken e q) e (ended (number e room q) (e .role) (e .method)) z in (
+        (λ i. record { number = m i; count = sym c i; second = sym d i; exchange = x i }),
+        (λ i. byKind (kind (m i)) room room (zeros (length room))) ∙ kind-other (number e room q) room (filled e room q) room (zeros (length room)) z,
+      )
+
+  -- an accepted step's
+  pub step-accepted : number e room q ≡ 0
+      → (_≡_ {A = Step} (record { number = 0; count = countOf e room q; second = secondOf e q; exchange = taken e q }) (answered e room q))
+      × (filled e room q ≡ roomAfter e room q)
+  unfolding answered exchangeAfter roomAfter kind
+  step-accepted z = (rw z, rw z)
+
+  -- what it knows: its step is due, the room is long enough, and nothing is wrong with what it was fed
+  pub step-known : number e room q ≡ 0 → Due (stepNo q) e × (roomLeast ≤ length room) × (fedCause (e .role) (e .method) q ≡ 0)
+  unfolding number numbered
+  step-known z =
+      let a = unless-none (due (stepNo q) e) 1 _ (omega arith) z in
+      let b = if-none (ltb (length room) roomLeast) 3 _ (omega arith) (a .1) in
+      (due-known (stepNo q) e (a .0), ltb-false (length room) roomLeast (b .0), b .1)
+
+pub output-refused : (n : ℕ) (out b : List ℕ) → (n ≡ 0 → ⊥) → out ≡ outputAfter n out b
+unfolding outputAfter
+output-refused n out b h = sym (kind-same n (onto out b) out h)
+
+pub output-accepted : (n : ℕ) (out b : List ℕ) → n ≡ 0 → onto out b ≡ outputAfter n out b
+unfolding outputAfter kind
+output-accepted n out b h = rw h
+
+-- ---- where a step is next
+
+-- own C comes first to a client
+pub next-1 : (role : ℕ) (stage : Stage) → nextStep role stage ≡ 1 → (role ≡ 1) × (stage ≡ Started)
+next-1 role stage e = by-test (eqb role 1) refl (eqb role 2) refl stage e
+  where
+    by-test : (t : Bool) → eqb role 1 ≡ t → (u : Bool) → eqb role 2 ≡ u → (stage : Stage) → cond t (clientNext stage) (cond u (serverNext stage) 0) ≡ 1 → (role ≡ 1) × (stage ≡ Started)
+    by-test true p u q Started h = (eqb-true role 1 p, refl)
+    by-test true p u q CSent h = let w : ⊥ = omega arith in absurd w
+    by-test true p u q InitRead h = let w : ⊥ = omega arith in absurd w
+    by-test true p u q ReplyRead h = let w : ⊥ = omega arith in absurd w
+    by-test true p u q SecretDone h = let w : ⊥ = omega arith in absurd w
+    by-test true p u q Complete h = let w : ⊥ = omega arith in absurd w
+    by-test true p u q (Failed n) h = let w : ⊥ = omega arith in absurd w
+    by-test false p true q Started h = let w : ⊥ = omega arith in absurd w
+    by-test false p true q CSent h = let w : ⊥ = omega arith in absurd w
+    by-test false p true q InitRead h = let w : ⊥ = omega arith in absurd w
+    by-test false p true q ReplyRead h = let w : ⊥ = omega arith in absurd w
+    by-test false p true q SecretDone h = let w : ⊥ = omega arith in absurd w
+    by-test false p true q Complete h = let w : ⊥ = omega arith in absurd w
+    by-test false p true q (Failed n) h = let w : ⊥ = omega arith in absurd w
+    by-test false p false q stage h = let w : ⊥ = omega arith in absurd w
+
+-- INIT comes first to a server
+pub next-2 : (role : ℕ) (stage : Stage) → nextStep role stage ≡ 2 → (role ≡ 2) × (stage ≡ Started)
+next-2 role stage e = by-test (eqb role 1) refl (eqb role 2) refl stage e
+  where
+    by-test : (t : Bool) → eqb role 1 ≡ t → (u : Bool) → eqb role 2 ≡ u → (stage : Stage) → cond t (clientNext stage) (cond u (serverNext stage) 0) ≡ 2 → (role ≡ 2) × (stage ≡ Started)
+    by-test true p u q Started h = let w : ⊥ = omega arith in absurd w
+    by-test true p u q CSent h = let w : ⊥ = omega arith in absurd w
+    by-test true p u q InitRead h = let w : ⊥ = omega arith in absurd w
+    by-test true p u q ReplyRead h = let w : ⊥ = omega arith in absurd w
+    by-test true p u q SecretDone h = let w : ⊥ = omega arith in absurd w
+    by-test true p u q Complete h = let w : ⊥ = omega arith in absurd w
+    by-test true p u q (Failed n) h = let w : ⊥ = omega arith in absurd w
+    by-test false p true q Started h = (eqb-true role 2 q, refl)
+    by-test false p true q CSent h = let w : ⊥ = omega arith in absurd w
+    by-test false p true q InitRead h = let w : ⊥ = omega arith in absurd w
+    by-test false p true q ReplyRead h = let w : ⊥ = omega arith in absurd w
+    by-test false p true q SecretDone h = let w : ⊥ = omega arith in absurd w
+    by-test false p true q Complete h = let w : ⊥ = omega arith in absurd w
+    by-test false p true q (Failed n) h = let w : ⊥ = omega arith in absurd w
+    by-test false p false q stage h = let w : ⊥ = omega arith in absurd w
+
+-- REPLY comes to a client behind own C
+pub next-3 : (role : ℕ) (stage : Stage) → nextStep role stage ≡ 3 → (role ≡ 1) × (stage ≡ CSent)
+next-3 role stage e = by-test (eqb role 1) refl (eqb role 2) refl stage e
+  where
+    by-test : (t : Bool) → eqb role 1 ≡ t → (u : Bool) → eqb role 2 ≡ u → (stage : Stage) → cond t (clientNext stage) (cond u (serverNext stage) 0) ≡ 3 → (role ≡ 1) × (stage ≡ CSent)
+    by-test true p u q Started h = let w : ⊥ = omega arith in absurd w
+    by-test true p u q CSent h = (eqb-true role 1 p, refl)
+    by-test true p u q InitRead h = let w : ⊥ = omega arith in absurd w
+    by-test true p u q ReplyRead h = let w : ⊥ = omega arith in absurd w
+    by-test true p u q SecretDone h = let w : ⊥ = omega arith in absurd w
+    by-test true p u q Complete h = let w : ⊥ = omega arith in absurd w
+    by-test true p u q (Failed n) h = let w : ⊥ = omega arith in absurd w
+    by-test false p true q Started h = let w : ⊥ = omega arith in absurd w
+    by-test false p true q CSent h = let w : ⊥ = omega arith in absurd w
+    by-test false p true q InitRead h = let w : ⊥ = omega arith in absurd w
+    by-test false p true q ReplyRead h = let w : ⊥ = omega arith in absurd w
+    by-test false p true q SecretDone h = let w : ⊥ = omega arith in absurd w
+    by-test false p true q Complete h = let w : ⊥ = omega arith in absurd w
+    by-test false p true q (Failed n) h = let w : ⊥ = omega arith in absurd w
+    by-test false p false q stage h = let w : ⊥ = omega arith in absurd w
+
+-- the secret comes to a client behind REPLY, and to a server behind INIT
+pub next-4 : (role : ℕ) (stage : Stage) → nextStep role stage ≡ 4 → ((role ≡ 1) × (stage ≡ ReplyRead)) ⊎ ((role ≡ 2) × (stage ≡ InitRead))
+next-4 role stage e = by-test (eqb role 1) refl (eqb role 2) refl stage e
+  where
+    by-test : (t : Bool) → eqb role 1 ≡ t → (u : Bool) → eqb role 2 ≡ u → (stage : Stage) → cond t (clientNext stage) (cond u (serverNext stage) 0) ≡ 4
+        → ((role ≡ 1) × (stage ≡ ReplyRead)) ⊎ ((role ≡ 2) × (stage ≡ InitRead))
+    by-test true p u q Started h = let w : ⊥ = omega arith in absurd w
+    by-test true p u q CSent h = let w : ⊥ = omega arith in absurd w
+    by-test true p u q InitRead h = let w : ⊥ = omega arith in absurd w
+    by-test true p u q ReplyRead h = inl (eqb-true role 1 p, refl)
+    by-test true p u q SecretDone h = let w : ⊥ = omega arith in absurd w
+    by-test true p u q Complete h = let w : ⊥ = omega arith in absurd w
+    by-test true p u q (Failed n) h = let w : ⊥ = omega arith in absurd w
+    by-test false p true q Started h = let w : ⊥ = omega arith in absurd w
+    by-test false p true q CSent h = let w : ⊥ = omega arith in absurd w
+    by-test false p true q InitRead h = inr (eqb-true role 2 q, refl)
+    by-test false p true q ReplyRead h = let w : ⊥ = omega arith in absurd w
+    by-test false p true q SecretDone h = let w : ⊥ = omega arith in absurd w
+    by-test false p true q Complete h = let w : ⊥ = omega arith in absurd w
+    by-test false p true q (Failed n) h = let w : ⊥ = omega arith in absurd w
+    by-test false p false q stage h = let w : ⊥ = omega arith in absurd w
+
+-- the signature comes to a server behind the secret
+pub next-5 : (role : ℕ) (stage : Stage) → nextStep role stage ≡ 5 → (role ≡ 2) × (stage ≡ SecretDone)
+next-5 role stage e = by-test (eqb role 1) refl (eqb role 2) refl stage e
+  where
+    by-test : (t : Bool) → eqb role 1 ≡ t → (u : Bool) → eqb role 2 ≡ u → (stage : Stage) → cond t (clientNext stage) (cond u (serverNext stage) 0) ≡ 5 → (role ≡ 2) × (stage ≡ SecretDone)
+    by-test true p u q Started h = let w : ⊥ = omega arith in absurd w
+    by-test true p u q CSent h = let w : ⊥ = omega arith in absurd w
+    by-test true p u q InitRead h = let w : ⊥ = omega arith in absurd w
+    by-test true p u q ReplyRead h = let w : ⊥ = omega arith in absurd w
+    by-test true p u q SecretDone h = let w : ⊥ = omega arith in absurd w
+    by-test true p u q Complete h = let w : ⊥ = omega arith in absurd w
+    by-test true p u q (Failed n) h = let w : ⊥ = omega arith in absurd w
+    by-test false p true q Started h = let w : ⊥ = omega arith in absurd w
+    by-test false p true q CSent h = let w : ⊥ = omega arith in absurd w
+    by-test false p true q InitRead h = let w : ⊥ = omega arith in absurd w
+    by-test false p true q ReplyRead h = let w : ⊥ = omega arith in absurd w
+    by-test false p true q SecretDone h = (eqb-true role 2 q, refl)
+    by-test false p true q Complete h = let w : ⊥ = omega arith in absurd w
+    by-test false p true q (Failed n) h = let w : ⊥ = omega arith in absurd w
+    by-test false p false q stage h = let w : ⊥ = omega arith in absurd w
+
+-- the verdict comes to a client behind the secret
+pub next-6 : (role : ℕ) (stage : Stage) → nextStep role stage ≡ 6 → (role ≡ 1) × (stage ≡ SecretDone)
+next-6 role stage e = by-test (eqb role 1) refl (eqb role 2) refl stage e
+  where
+    by-test : (t : Bool) → eqb role 1 ≡ t → (u : Bool) → eqb role 2 ≡ u → (stage : Stage) → cond t (clientNext stage) (cond u (serverNext stage) 0) ≡ 6 → (role ≡ 1) × (stage ≡ SecretDone)
+    by-test true p u q Started h = let w : ⊥ = omega arith in absurd w
+    by-test true p u q CSent h = let w : ⊥ = omega arith in absurd w
+    by-test true p u q InitRead h = let w : ⊥ = omega arith in absurd w
+    by-test true p u q ReplyRead h = let w : ⊥ = omega arith in absurd w
+    by-test true p u q SecretDone h = (eqb-true role 1 p, refl)
+    by-test true p u q Complete h = let w : ⊥ = omega arith in absurd w
+    by-test true p u q (Failed n) h = let w : ⊥ = omega arith in absurd w
+    by-test false p true q Started h = let w : ⊥ = omega arith in absurd w
+    by-test false p true q CSent h = let w : ⊥ = omega arith in absurd w
+    by-test false p true q InitRead h = let w : ⊥ = omega arith in absurd w
+    by-test false p true q ReplyRead h = let w : ⊥ = omega arith in absurd w
+    by-test false p true q SecretDone h = let w : ⊥ = omega arith in absurd w
+    by-test false p true q Complete h = let w : ⊥ = omega arith in absurd w
+    by-test false p true q (Failed n) h = let w : ⊥ = omega arith in absurd w
+    by-test false p false q stage h = let w : ⊥ = omega arith in absurd w
+
+-- ---- bounds of the recorded lengths
+
+pub record Bounded (r : Method) (l : Lengths) : Type 0 where
+  pub vc : l .vc ≤ 253
+  pub vs : l .vs ≤ 253
+  pub ic : l .ic ≤ 4096
+  pub is : l .is ≤ 4096
+  pub ks : l .ks ≤ 2048
+  pub c : l .c ≤ r .c .len
+  pub s : l .s ≤ r .s .len
+
+-- C by its stage
+c-bound : (r : Method) (stage : Stage) (l : Lengths) → cFits r stage l ≡ true → l .c ≤ r .c .len
+unfolding cFits
+c-bound r stage l e = by-test (hasC stage) e
+  where
+    by-test : (t : Bool) → cond t (lengthFits (r .c) (l .c)) (eqb (l .c) 0) ≡ true → l .c ≤ r .c .len
+    by-test true h = length-most (r .c) (l .c) h
+    by-test false h = let z = eqb-true (l .c) 0 h in omega arith
+
+s-bound : (r : Method) (stage : Stage) (l : Lengths) → sFits r stage l ≡ true → (l .ks ≤ 2048) × (l .s ≤ r .s .len)
+unfolding sFits
+s-bound r stage l e = by-test (hasS stage) e
+  where
+    by-test : (t : Bool) → cond t (blobOk (l .ks) && lengthFits (r .s) (l .s)) (eqb (l .ks) 0 && eqb (l .s) 0) ≡ true → (l .ks ≤ 2048) × (l .s ≤ r .s .len)
+    by-test true h = let a = and-true (blobOk (l .ks)) (lengthFits (r .s) (l .s)) h in (within-most 1 2048 (l .ks) (a .0), length-most (r .s) (l .s) (a .1))
+    by-test false h =
+        let a = and-true (eqb (l .ks) 0) (eqb (l .s) 0) h in
+        let y = eqb-true (l .ks) 0 (a .0) in
+        let z = eqb-true (l .s) 0 (a .1) in
+        (omega arith, omega arith)
+
+pub bounded : (r : Method) (stage : Stage) (l : Lengths) → Fitting r stage l → Bounded r l
+bounded r stage l f =
+    let s = s-bound r stage l (f .s) in
+    record {
+      vc = within-most 1 253 (l .vc) (f .vc);
+      vs = within-most 1 253 (l .vs) (f .vs);
+      ic = within-most 1 4096 (l .ic) (f .ic);
+      is = within-most 1 4096 (l .is) (f .is);
+      ks = s .0;
+      c = c-bound r stage l (f .c);
+      s = s .1;
+    }
+
+-- no sum of them wraps
+pub small : (r : Method) (l : Lengths) → Sound r → Bounded r l → Small l
+small r l row b =
+    let c = row .c-most in
+    let s = row .s-most in
+    record {
+      vc = omega (arith, b .vc);
+      vs = omega (arith, b .vs);
+      ic = b .ic;
+      is = b .is;
+      ks = omega (arith, b .ks);
+      c = omega (arith, b .c);
+      s = omega (arith, b .s);
+    }
+
+-- both V and both I: 2 times 257 and 2 times 4,100
+pub head-most : (r : Method) (l : Lengths) → Bounded r l → headEnd l ≤ 8714
+head-most r l b =
+    omega (arith, b .vc, b .vs, b .ic, b .is, fieldLength-most (l .vc), fieldLength-most (l .vs), fieldLength-most (l .ic), fieldLength-most (l .is))
+
+-- all of the room: with K_S, C, S and K there are 14,156 bytes at most
+pub all-most : (r : Method) (l : Lengths) → Sound r → Bounded r l → (k : ℕ) → k ≤ 4 + kMost r → fieldsEnd l + k ≤ roomLeast
+all-most r l row b k h =
+    omega (arith, head-most r l b, b .ks, b .c, b .s, row .all-most, fieldLength-most (l .ks), fieldLength-most (l .c), fieldLength-most (l .s))
+
+-- ---- lengths by the stage
+
+pub started-lengths : (r : Method) (l : Lengths) → Fitting r Started l → (l .c ≡ 0) × (l .ks ≡ 0) × (l .s ≡ 0)
+unfolding cFits sFits
+started-lengths r l f =
+    let a = and-true (eqb (l .ks) 0) (eqb (l .s) 0) (f .s) in
+    (eqb-true (l .c) 0 (f .c), eqb-true (l .ks) 0 (a .0), eqb-true (l .s) 0 (a .1))
+
+-- only C is there beside both V and both I
+pub sent-lengths : (r : Method) (l : Lengths) → Fitting r CSent l → (l .ks ≡ 0) × (l .s ≡ 0) × (lengthFits (r .c) (l .c) ≡ true)
+unfolding cFits sFits
+sent-lengths r l f =
+    let a = and-true (eqb (l .ks) 0) (eqb (l .s) 0) (f .s) in
+    (eqb-true (l .ks) 0 (a .0), eqb-true (l .s) 0 (a .1), f .c)
+
+pub read-lengths : (r : Method) (l : Lengths) → Fitting r InitRead l → (l .ks ≡ 0) × (l .s ≡ 0) × (lengthFits (r .c) (l .c) ≡ true)
+unfolding cFits sFits
+read-lengths r l f =
+    let a = and-true (eqb (l .ks) 0) (eqb (l .s) 0) (f .s) in
+    (eqb-true (l .ks) 0 (a .0), eqb-true (l .s) 0 (a .1), f .c)
+
+-- all seven are there
+pub secret-lengths : (r : Method) (l : Lengths) → Fitting r SecretDone l → (1 ≤ l .ks) × (lengthFits (r .s) (l .s) ≡ true) × (lengthFits (r .c) (l .c) ≡ true)
+unfolding cFits sFits
+secret-lengths r l f =
+    let a = and-true (blobOk (l .ks)) (lengthFits (r .s) (l .s)) (f .s) in
+    (within-least 1 2048 (l .ks) (a .0), a .1, f .c)

@@ -1,0 +1,120 @@
+-- The book, document 01's word for the plain account that demand 3 holds an exchange to. It is fed the arguments of the start and of
+-- the calls, with the lengths of room and outputs, and never sees the exchange or the room's bytes. Assumes nothing.
+use Prim.Native.Nat.{ℕ, _+_}
+use mathlib.Core.List.{List, [], _∷_, _++_}
+use mathlib.Core.Bool.{Bool, true, false, cond, not, _&&_}
+use lib.ListN.{length, getD, drop}
+use lib.Dec.{ltb, eqb}
+use Rattle.wire.specs.Bytes.{zeros, onto}
+use Rattle.wire.specs.Causes.{causeIf, causeUnless}
+use Rattle.messages.specs.Messages.{fieldOf}
+use Rattle.transcript.specs.Fields.{field}
+use Rattle.exchange.specs.Causes.{roomLeast, kOf}
+use Rattle.exchange.specs.Steps.{Call, ownC, init, reply, secret, sign, verdict, stepNo, fedCause, kind, byKind}
+use Rattle.exchange.specs.declared.Stage.{Stage}
+use Rattle.exchange.specs.declared.Stage.the-variants.{Started, CSent, InitRead, ReplyRead, SecretDone, Complete, Failed}
+
+-- the hash input's fields; a missing one is empty, and K stands in its form
+pub record Fields : Type 0 where
+  pub vc : List ℕ
+  pub vs : List ℕ
+  pub ic : List ℕ
+  pub is : List ℕ
+  pub ks : List ℕ
+  pub c : List ℕ
+  pub s : List ℕ
+  pub k : List ℕ
+
+-- role, method, steps done, fields, and whether a fault came
+pub record Book : Type 0 where
+  pub role : ℕ
+  pub method : ℕ
+  pub done : ℕ
+  pub fields : Fields
+  pub faulted : Bool
+
+abbrev pub noFields : Fields
+noFields = record { vc = []; vs = []; ic = []; is = []; ks = []; c = []; s = []; k = [] }
+
+-- the accepted start gives role, method, both V and both I
+unfoldable pub opened : ℕ → ℕ → List ℕ → List ℕ → List ℕ → List ℕ → Book
+opened role m vc vs ic is = record {
+  role = role;
+  method = m;
+  done = 0;
+  fields = record { vc = vc; vs = vs; ic = ic; is = is; ks = []; c = []; s = []; k = [] };
+  faulted = false;
+}
+
+-- a client's steps are own C, REPLY, secret, verdict; a server's are INIT, secret, signature
+abbrev pub stepsOf : ℕ → List ℕ
+stepsOf role = cond (eqb role 1) (1 ∷ 3 ∷ 4 ∷ 6 ∷ []) (2 ∷ 4 ∷ 5 ∷ [])
+
+-- a call's first cause: 1 when a fault came or it is not the role's step after those done; then by what it was fed
+unfoldable pub firstCause : ℕ → Book → Call → ℕ
+firstCause room b q =
+    causeIf (b .faulted) 1
+    (causeUnless (eqb (getD (stepsOf (b .role)) (b .done) 0) (stepNo q)) 1
+    (causeIf (ltb room roomLeast) 3 (fedCause (b .role) (b .method) q)))
+
+-- the fields that a call brings: C, or K_S and S, as handed in or read, and K by the wire rules; a client's secret brings K alone
+abbrev pub brings : Fields → List ℕ → List ℕ → List ℕ → List ℕ → Fields
+brings f ks c s k = record { vc = f .vc; vs = f .vs; ic = f .ic; is = f .is; ks = ks; c = c; s = s; k = k }
+
+unfoldable pub joined : ℕ → ℕ → Fields → Call → Fields
+joined role m f (ownC c out) = brings f (f .ks) c (f .s) (f .k)
+joined role m f (init p) = brings f (f .ks) (fieldOf p 0) (f .s) (f .k)
+joined role m f (reply p) = brings f (fieldOf p 0) (f .c) (fieldOf p 1) (f .k)
+joined role m f (secret cl x kem d ks s) =
+    cond (eqb role 2) (brings f ks (f .c) s (kOf m x d)) (brings f (f .ks) (f .c) (f .s) (kOf m x d))
+joined role m f (sign g out kOut) = f
+joined role m f (verdict a b kOut) = f
+
+-- the book after a call: its step is done and its fields join; a refusal leaves it; a peer fault is noted and drops the fields
+abbrev pub moved : Book → Call → Book
+moved b q = record { role = b .role; method = b .method; done = b .done + 1; fields = joined (b .role) (b .method) (b .fields) q; faulted = false }
+
+abbrev pub dropped : Book → Book
+dropped b = record { role = b .role; method = b .method; done = b .done; fields = noFields; faulted = true }
+
+unfoldable pub noted : ℕ → Book → Call → Book
+noted room b q = byKind (kind (firstCause room b q)) (moved b q) b (dropped b)
+
+-- the book has every step of its role
+unfoldable pub hasAll : Book → Bool
+hasAll b = not (b .faulted) && eqb (b .done) (length (stepsOf (b .role)))
+
+-- the hash input so far: the strings of the fields that are there, in hash order, and K in its form
+unfoldable pub hashInput : Fields → List ℕ
+hashInput f =
+    field (f .vc)
+    ++ field (f .vs)
+    ++ field (f .ic)
+    ++ field (f .is)
+    ++ field (f .ks)
+    ++ field (f .c)
+    ++ field (f .s)
+    ++ f .k
+
+-- the room that the book tells, over the room as it was lent to the start
+unfoldable pub roomTold : Book → List ℕ → List ℕ
+roomTold b room = cond (b .faulted) (zeros (length room)) (onto room (hashInput (b .fields)))
+
+-- a record says that it is complete
+abbrev pub isComplete : Stage → Bool
+isComplete Started = false
+isComplete CSent = false
+isComplete InitRead = false
+isComplete ReplyRead = false
+isComplete SecretDone = false
+isComplete Complete = true
+isComplete (Failed n) = false
+
+-- a list of calls, told to the book
+abbrev pub causes : ℕ → Book → List Call → List ℕ
+causes room b [] = []
+causes room b (q ∷ qs) = firstCause room b q ∷ causes room (noted room b q) qs
+
+abbrev pub lastBook : ℕ → Book → List Call → Book
+lastBook room b [] = b
+lastBook room b (q ∷ qs) = lastBook room (noted room b q) qs

@@ -1,0 +1,156 @@
+-- Document 01's causes on what the caller hands in and on what the peer sent: for the start and each step the first that holds.
+-- Steps and book share these, and nothing else but the wire encodings and the method row. Assumes nothing.
+use Prim.Native.Nat.{ℕ}
+use mathlib.Core.List.{List, [], _∷_}
+use mathlib.Core.Bool.{Bool, true, false, cond, not, _&&_, _||_}
+use lib.ListN.{length, getD}
+use lib.Dec.{ltb, leb, eqb}
+use Rattle.wire.specs.Causes.{causeIf, causeUnless, orElse}
+use Rattle.messages.specs.Messages.{within, messageCause, fieldOf}
+use Rattle.methods.specs.Rows.{rowOf}
+use Rattle.methods.specs.Form.{lengthFits, leadFits, formed}
+use Rattle.methods.specs.declared.KForm.{KForm}
+use Rattle.methods.specs.declared.KForm.the-variants.{Mpint, Digest}
+use Rattle.secret.specs.Secret.{kBytes, leadingZeros}
+use Rattle.exchange.specs.declared.Classical.{Classical}
+use Rattle.exchange.specs.declared.Classical.the-variants.{Failed as NoX, Given}
+use Rattle.exchange.specs.declared.Kem.{Kem}
+use Rattle.exchange.specs.declared.Kem.the-variants.{Absent, Failed as NoKem, Done}
+
+-- ---- sizes
+
+-- the room, document 01's word for the buffer that is lent for the hash input: 32 + 506 + 8,192 + 2,048 + 3,330 + 48 bytes
+abbrev pub roomLeast : ℕ
+roomLeast = 14156
+
+-- the outputs for INIT, for REPLY and for K
+abbrev pub initLeast : ℕ
+initLeast = 1670
+
+abbrev pub replyLeast : ℕ
+replyLeast = 5774
+
+abbrev pub kLeast : ℕ
+kLeast = 71
+
+-- V: 1 to 253 bytes without 0, 10 or 13
+abbrev pub plain : List ℕ → Bool
+plain [] = true
+plain (b ∷ v) = not (eqb b 0) && not (eqb b 10) && not (eqb b 13) && plain v
+
+unfoldable pub versionOk : List ℕ → Bool
+versionOk v = within 1 253 (length v) && plain v
+
+-- I: 1 to 4,096 bytes, the first 20
+unfoldable pub kexinitOk : List ℕ → Bool
+kexinitOk i = within 1 4096 (length i) && eqb (getD i 0 0) 20
+
+-- K_S and signature: 1 to 2,048 bytes
+abbrev pub blobOk : ℕ → Bool
+blobOk n = within 1 2048 n
+
+unfoldable pub methodOk : ℕ → Bool
+methodOk m = within 1 9 m
+
+unfoldable pub roleOk : ℕ → Bool
+roleOk r = within 1 2 r
+
+-- ---- start
+
+unfoldable pub startCause : ℕ → ℕ → List ℕ → List ℕ → List ℕ → List ℕ → ℕ → ℕ
+startCause role m vc vs ic is room =
+    causeUnless (methodOk m && roleOk role) 2
+    (causeIf (ltb room roomLeast) 3
+    (causeUnless (versionOk vc && versionOk vs && kexinitOk ic && kexinitOk is) 4 0))
+
+-- ---- own C
+
+unfoldable pub ownCCause : ℕ → List ℕ → ℕ → ℕ
+ownCCause m c out = causeUnless (formed (rowOf m .c) c) 4 (causeIf (ltb out initLeast) 5 0)
+
+-- ---- INIT
+
+unfoldable pub initCause : ℕ → List ℕ → ℕ
+initCause m p =
+    orElse (messageCause 30 1 p)
+    (causeUnless (lengthFits (rowOf m .c) (length (fieldOf p 0))) 14
+    (causeUnless (leadFits (rowOf m .c) (fieldOf p 0)) 15 0))
+
+-- ---- REPLY: 14 looks at all fields, in wire order, before 15 looks at any
+
+unfoldable pub replyCause : ℕ → List ℕ → ℕ
+replyCause m p =
+    orElse (messageCause 31 3 p)
+    (causeUnless (blobOk (length (fieldOf p 0)) && lengthFits (rowOf m .s) (length (fieldOf p 1)) && blobOk (length (fieldOf p 2))) 14
+    (causeUnless (leadFits (rowOf m .s) (fieldOf p 1)) 15 0))
+
+-- ---- secret
+
+-- the number that the classical primitive states is the method's, and X has exactly that many bytes; a failed one has no X to look at
+abbrev pub xOk : ℕ → Classical → List ℕ → Bool
+xOk m NoX x = true
+xOk m (Given n) x = eqb n (rowOf m .«x_len») && eqb (length x) (rowOf m .«x_len»)
+
+-- a KEM's outcome is there exactly in the hybrids, whose K is a digest
+abbrev pub hybrid : KForm → Bool
+hybrid Mpint = false
+hybrid Digest = true
+
+abbrev pub present : Kem → Bool
+present Absent = false
+present NoKem = true
+present Done = true
+
+abbrev pub kemOk : ℕ → Kem → Bool
+kemOk m kem = cond (hybrid (rowOf m .«k_form»)) (present kem) (not (present kem))
+
+-- the digest: the method's length in a hybrid whose primitives both gave something, else empty
+abbrev pub digestFor : Classical → Kem → ℕ → ℕ
+digestFor (Given n) Done len = len
+digestFor (Given n) NoKem len = 0
+digestFor (Given n) Absent len = 0
+digestFor NoX kem len = 0
+
+abbrev pub digestOk : ℕ → Classical → Kem → List ℕ → Bool
+digestOk m cl kem d = eqb (length d) (digestFor cl kem (rowOf m .«digest_len»))
+
+-- a server hands in K_S and its own S; a client's are not looked at
+abbrev pub ownOk : ℕ → ℕ → List ℕ → List ℕ → Bool
+ownOk role m ks s = cond (eqb role 2) (blobOk (length ks) && formed (rowOf m .s) s) true
+
+-- X failed, or is all zero where the check is on
+abbrev pub allZero : List ℕ → Bool
+allZero x = eqb (leadingZeros x) (length x)
+
+abbrev pub xBad : ℕ → Classical → List ℕ → Bool
+xBad m NoX x = true
+xBad m (Given n) x = rowOf m .«zero_check» && allZero x
+
+abbrev pub kemBad : Kem → Bool
+kemBad Absent = false
+kemBad NoKem = true
+kemBad Done = false
+
+unfoldable pub secretCause : ℕ → ℕ → Classical → List ℕ → Kem → List ℕ → List ℕ → List ℕ → ℕ
+secretCause role m cl x kem d ks s =
+    causeUnless (xOk m cl x && kemOk m kem && digestOk m cl kem d && ownOk role m ks s) 4
+    (causeIf (xBad m cl x) 16
+    (causeIf (kemBad kem) 17 0))
+
+-- K, in the method's form
+abbrev pub kOf : ℕ → List ℕ → List ℕ → List ℕ
+kOf m x d = kBytes (rowOf m .«k_form») x d
+
+-- ---- signature
+
+unfoldable pub signCause : List ℕ → ℕ → ℕ → ℕ
+signCause signature out kOut =
+    causeUnless (blobOk (length signature)) 4
+    (causeIf (ltb out replyLeast || ltb kOut kLeast) 5 0)
+
+-- ---- verdict
+
+unfoldable pub verdictCause : Bool → Bool → ℕ → ℕ
+verdictCause signature hostKey kOut =
+    causeIf (ltb kOut kLeast) 5
+    (causeUnless (signature && hostKey) 18 0)

@@ -1,0 +1,41 @@
+-- Demand 3 over the definitions that the contracts cite; the crate demand states it over the functions' own contracts. Assumes nothing.
+use Prim.Native.Nat.{ℕ, _≤_}
+use mathlib.Core.Path.{_≡_}
+use mathlib.Core.List.{List, [], _∷_}
+use lib.ListN.{length}
+use Rattle.exchange.specs.Causes.{roomLeast}
+use Rattle.exchange.specs.Steps.{Call, number, exchangeAfter, roomAfter}
+use Rattle.exchange.specs.Book.{Book, opened, causes, lastBook, isComplete, hasAll, roomTold, hashInput}
+use Rattle.exchange.specs.declared.Exchange.{Exchange}
+
+-- a list of calls, each with the exchange and the room as the last left them
+abbrev pub numbersOf : Exchange → List ℕ → List Call → List ℕ
+numbersOf e room [] = []
+numbersOf e room (q ∷ qs) = number e room q ∷ numbersOf (exchangeAfter e room q) (roomAfter e room q) qs
+
+abbrev pub lastExchange : Exchange → List ℕ → List Call → Exchange
+lastExchange e room [] = e
+lastExchange e room (q ∷ qs) = lastExchange (exchangeAfter e room q) (roomAfter e room q) qs
+
+abbrev pub lastRoom : Exchange → List ℕ → List Call → List ℕ
+lastRoom e room [] = room
+lastRoom e room (q ∷ qs) = lastRoom (exchangeAfter e room q) (roomAfter e room q) qs
+
+-- none of the numbers is n
+abbrev pub Never : ℕ → List ℕ → Type 0
+Never n [] = Unit {0}
+Never n (m ∷ ms) = (m ≡ n → ⊥) × Never n ms
+
+-- what holds after an accepted start from a room and a list of calls, of the numbers that they answered and of the exchange and the
+-- room that they left
+pub record Held (role m : ℕ) (vc vs ic is room : List ℕ) (calls : List Call) (numbers : List ℕ) (e : Exchange) (room′ : List ℕ) : Type 0 where
+  -- each call's number is the book's first cause, or 0 with none
+  pub answers : numbers ≡ causes (length room) (opened role m vc vs ic is) calls
+  -- never 3
+  pub room-enough : Never 3 numbers
+  -- the record says complete exactly when the book has every step of its role
+  pub complete : isComplete (e .stage) ≡ hasAll (lastBook (length room) (opened role m vc vs ic is) calls)
+  -- the room begins with the book's fields in hash order, the rest as it was lent to the start; or it is all zeros after a fault
+  pub room-is : room′ ≡ roomTold (lastBook (length room) (opened role m vc vs ic is) calls) room
+  -- the fields never pass 14,156 bytes
+  pub fields-most : length (hashInput (lastBook (length room) (opened role m vc vs ic is) calls .fields)) ≤ roomLeast

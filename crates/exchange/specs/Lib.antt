@@ -1,0 +1,5 @@
+pub mod Causes
+pub mod Record
+pub mod Steps
+pub mod Book
+pub mod Demand

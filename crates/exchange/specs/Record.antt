@@ -1,0 +1,106 @@
+-- The exchange's record: which records fit, and what is due on them. Assumes nothing.
+use Prim.Native.Nat.{ℕ, _+_}
+use mathlib.Core.List.{List}
+use mathlib.Core.Bool.{Bool, true, false, cond, _&&_}
+use lib.ListN.{length}
+use lib.Dec.{leb, eqb}
+use Rattle.wire.specs.Bytes.{zeros}
+use Rattle.wire.specs.Strings.{number32}
+use Rattle.messages.specs.Messages.{within}
+use Rattle.methods.specs.Rows.{rowOf}
+use Rattle.methods.specs.Form.{lengthFits}
+use Rattle.methods.specs.declared.KForm.{KForm}
+use Rattle.methods.specs.declared.KForm.the-variants.{Mpint, Digest}
+use Rattle.methods.specs.declared.Method.{Method}
+use Rattle.secret.specs.Secret.{kSize}
+use Rattle.exchange.specs.Causes.{methodOk, blobOk}
+use Rattle.exchange.specs.declared.Stage.{Stage}
+use Rattle.exchange.specs.declared.Stage.the-variants.{Started, CSent, InitRead, ReplyRead, SecretDone, Complete, Failed}
+use Rattle.exchange.specs.declared.Lengths.{Lengths}
+use Rattle.exchange.specs.declared.Exchange.{Exchange}
+
+-- no lengths, an exchange that a number ended, and one that never began
+abbrev pub noLengths : Lengths
+noLengths = record { vc = 0; vs = 0; ic = 0; is = 0; ks = 0; c = 0; s = 0 }
+
+unfoldable pub ended : ℕ → ℕ → ℕ → Exchange
+ended n role m = record { stage = Failed n; role = role; method = m; lens = noLengths; k = zeros kSize }
+
+-- the step that comes next in a role: 1 own C, 2 INIT, 3 REPLY, 4 secret, 5 signature, 6 verdict, 0 none
+abbrev pub clientNext : Stage → ℕ
+clientNext Started = 1
+clientNext CSent = 3
+clientNext InitRead = 0
+clientNext ReplyRead = 4
+clientNext SecretDone = 6
+clientNext Complete = 0
+clientNext (Failed n) = 0
+
+abbrev pub serverNext : Stage → ℕ
+serverNext Started = 2
+serverNext CSent = 0
+serverNext InitRead = 4
+serverNext ReplyRead = 0
+serverNext SecretDone = 5
+serverNext Complete = 0
+serverNext (Failed n) = 0
+
+abbrev pub nextStep : ℕ → Stage → ℕ
+nextStep role stage = cond (eqb role 1) (clientNext stage) (cond (eqb role 2) (serverNext stage) 0)
+
+-- which of C, K_S and S, and K, a stage has
+abbrev pub hasC : Stage → Bool
+hasC Started = false
+hasC CSent = true
+hasC InitRead = true
+hasC ReplyRead = true
+hasC SecretDone = true
+hasC Complete = true
+hasC (Failed n) = false
+
+abbrev pub hasS : Stage → Bool
+hasS Started = false
+hasS CSent = false
+hasS InitRead = false
+hasS ReplyRead = true
+hasS SecretDone = true
+hasS Complete = true
+hasS (Failed n) = false
+
+abbrev pub hasK : Stage → Bool
+hasK Started = false
+hasK CSent = false
+hasK InitRead = false
+hasK ReplyRead = false
+hasK SecretDone = true
+hasK Complete = true
+hasK (Failed n) = false
+
+-- the recorded lengths fit a stage: both V and both I always; C, K_S and S where the stage has them, else 0
+unfoldable pub cFits : Method → Stage → Lengths → Bool
+cFits r stage l = cond (hasC stage) (lengthFits (r .c) (l .c)) (eqb (l .c) 0)
+
+unfoldable pub sFits : Method → Stage → Lengths → Bool
+sFits r stage l = cond (hasS stage) (blobOk (l .ks) && lengthFits (r .s) (l .s)) (eqb (l .ks) 0 && eqb (l .s) 0)
+
+unfoldable pub lengthsFit : Method → Stage → Lengths → Bool
+lengthsFit r stage l =
+    within 1 253 (l .vc) && within 1 253 (l .vs) && within 1 4096 (l .ic) && within 1 4096 (l .is)
+    && cFits r stage l && sFits r stage l
+
+-- K's length inside its record, its four length bytes included, and whether the method allows it
+abbrev pub kLength : List ℕ → ℕ
+kLength k = 4 + number32 k
+
+abbrev pub kBodyFits : KForm → Method → ℕ → Bool
+kBodyFits Mpint r n = leb n (r .«x_len» + 1) && cond (r .«zero_check») (leb 1 n) true
+kBodyFits Digest r n = eqb n (r .«digest_len»)
+
+unfoldable pub kFits : Method → Stage → List ℕ → Bool
+kFits r stage k = cond (hasK stage) (kBodyFits (r .«k_form») r (number32 k)) true
+
+-- a step is due: it is the role's next, the method is one, and lengths and K fit
+unfoldable pub due : ℕ → Exchange → Bool
+due n e =
+    eqb (nextStep (e .role) (e .stage)) n && methodOk (e .method)
+    && lengthsFit (rowOf (e .method)) (e .stage) (e .lens) && kFits (rowOf (e .method)) (e .stage) (e .k)

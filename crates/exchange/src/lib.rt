@@ -1,0 +1,61 @@
+// One key exchange, as a record that goes in by value and comes back: its types. What its steps do is defined in specs/; the code
+// of the steps stands in the crates above.
+
+// How far an exchange has come.
+pub enum Stage {
+    // V_C, V_S, I_C and I_S are in the room.
+    Started,
+    // Client: own C went out.
+    CSent,
+    // Server: C came in.
+    InitRead,
+    // Client: K_S and S came in.
+    ReplyRead,
+    // K is known, and the hash input is whole.
+    SecretDone,
+    // Every step of the role was accepted.
+    Complete,
+    // Ended for good, with the number of the refusal that did it.
+    Failed(u8),
+}
+
+// The lengths of the fields in the room; 0 where a field is not there.
+pub struct Lengths {
+    pub vc: usize,
+    pub vs: usize,
+    pub ic: usize,
+    pub is: usize,
+    pub ks: usize,
+    pub c: usize,
+    pub s: usize,
+}
+
+// An exchange. Role 1 is the client's, 2 the server's. The K record is all zeros until the secret step.
+pub struct Exchange {
+    pub stage: Stage,
+    pub role: u8,
+    pub method: u8,
+    pub lens: Lengths,
+    pub k: [u8; secret::K_SIZE],
+}
+
+// What the classical primitive gave: nothing, or so many bytes, lent beside it.
+pub enum Classical {
+    Failed,
+    Given(usize),
+}
+
+// What the KEM gave.
+pub enum Kem {
+    Absent,
+    Failed,
+    Done,
+}
+
+// What a step answers: its number, its counts (the second only at the signature step) and the exchange as it now is.
+pub struct Step {
+    pub number: u8,
+    pub count: usize,
+    pub second: usize,
+    pub exchange: Exchange,
+}
