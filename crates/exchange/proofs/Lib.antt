@@ -3,3 +3,4 @@ pub mod DueLaws
 pub mod HashLaws
 pub mod StepLaws
 pub mod Simulation
+pub mod Completes

@@ -358,7 +358,7 @@ most-sim room b e room′ (dead n x f y z) = rw f zero-le
 
 -- ---- the start
 
-role-is : (role : ℕ) → roleOk role ≡ true → (role ≡ 1) ⊎ (role ≡ 2)
+pub role-is : (role : ℕ) → roleOk role ≡ true → (role ≡ 1) ⊎ (role ≡ 2)
 unfolding roleOk
 role-is role h = go (eqb role 1) refl
   where

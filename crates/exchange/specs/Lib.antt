@@ -3,3 +3,4 @@ pub mod Record
 pub mod Steps
 pub mod Book
 pub mod Demand
+pub mod Sample

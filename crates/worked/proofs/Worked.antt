@@ -1,13 +1,21 @@
 -- The worked examples hold, all in one equation. Assumes nothing.
-use Prim.Native.Nat.{ℕ, zero, suc, _<_}
+use Prim.Native.Nat.{ℕ, zero, suc, _+_, _≤_, _<_}
 use mathlib.Core.Path.{_≡_, refl, sym, ap, _∙_}
-use mathlib.Core.List.{List, [], _∷_, map}
+use mathlib.Core.List.{List, [], _∷_, _++_, map}
 use native.Mathlib.Omega.{arith}
-use lib.ListN.{length, replicate}
+use lib.ListN.{length, drop, replicate, length-append}
+use lib.Seq.{drop-append-seam}
 use Rattle.wire.specs.Bytes.{Bytes, zeros}
-use Rattle.wire.specs.Strings.{string, whole, readString}
+use Rattle.wire.specs.Causes.{causeIf, causeUnless, orElse}
+use Rattle.wire.specs.Strings.{number32, string, strings, whole, walk, readString}
+use Rattle.wire.specs.declared.Walk.{Walk}
+use Rattle.wire.proofs.CauseLaws.{orElse-first}
+use Rattle.wire.proofs.StringLaws.{length-string, whole-no-length}
+use Rattle.wire.proofs.StringsLaws.{walk-strings}
+use Rattle.messages.proofs.MessageLaws.{message-cut}
+use Rattle.exchange.specs.Causes.{secretCause, replyCause}
 use Rattle.wire.proofs.ByteLaws.{bytes-cons}
-use mathlib.Core.Bool.{false}
+use mathlib.Core.Bool.{Bool, true, false, cond}
 use Rattle.mpint.specs.Mpint.{excess, shortest, readMpint}
 use Rattle.mpint.specs.Value.{value}
 use Rattle.mpint.proofs.Unique.{shortest-value}
@@ -28,17 +36,63 @@ lower-is o =
     shortest-value (o .lower) (0xff ∷ 0x7f ∷ []) (o .lower-bytes)
     (bytes-cons 0xff (0x7f ∷ []) (omega arith) (bytes-cons 0x7f [] (omega arith) none)) (o .lower-value)
 
+-- where two strings were passed over and the third is not whole, three are cut
+third : (s : List ℕ) (at : ℕ) → walk s at 2 .number ≡ 0 → whole (drop (walk s at 2 .place) s) ≡ false → walk s at 3 .number ≡ 12
+third s at = by-test (whole (drop at s)) (whole (drop (at + 4 + number32 (drop at s)) s))
+  where
+    p : ℕ
+    p = at + 4 + number32 (drop at s)
+
+    q : ℕ
+    q = p + 4 + number32 (drop p s)
+
+    by-test : (t u : Bool) → cond {A = Walk} t (cond u (record { number = 0; place = q }) (record { number = 12; place = p })) (record { number = 12; place = at }) .number ≡ 0
+        → whole (drop (cond {A = Walk} t (cond u (record { number = 0; place = q }) (record { number = 12; place = p })) (record { number = 12; place = at }) .place) s) ≡ false
+        → cond {A = Walk} t (cond u (cond (whole (drop q s)) (record { number = 0; place = q + 4 + number32 (drop q s) }) (record { number = 12; place = q })) (record { number = 12; place = p })) (record { number = 12; place = at }) .number ≡ 12
+    by-test true true n w = rw w
+    by-test true false n w = let v : ⊥ = omega arith in absurd v
+    by-test false u n w = let v : ⊥ = omega arith in absurd v
+
 -- 7f in front is needed, whatever follows it
 needed : (r : List ℕ) → excess (0x7f ∷ r) ≡ false
 needed [] = refl
 needed (a ∷ r) = refl
 
+-- REPLY's first two strings are there, and the third's length is not
+module _ (o : Choice) where
+  reply : List ℕ
+  reply = (31 ∷ []) ++ (strings (o .ks ∷ o .s ∷ []) ++ o .cut)
+
+  two : walk reply 1 2 ≡ record { number = 0; place = 1 + length (strings (o .ks ∷ o .s ∷ [])) }
+  unfolding reply
+  two =
+      walk-strings reply 1 (o .ks ∷ o .s ∷ []) (o .cut)
+      (omega (arith, o .reply-length, length-append (strings (o .ks ∷ o .s ∷ [])) (o .cut))) refl
+
+  cut-short : whole (drop (walk reply 1 2 .place) reply) ≡ false
+  unfolding reply
+  cut-short =
+      ap (λ (w : Walk). whole (drop (w .place) reply)) two
+      ∙ ap (λ (l : List ℕ). whole l) (ap (λ (n : ℕ). drop n reply) one ∙ drop-append-seam (strings (o .ks ∷ o .s ∷ [])) (o .cut))
+      ∙ whole-no-length (o .cut) (omega (arith, o .cut-length))
+    where
+      one : 1 + length (strings (o .ks ∷ o .s ∷ [])) ≡ suc (length (strings (o .ks ∷ o .s ∷ [])))
+      one = omega arith
+
+  cut-reply : replyCause (o .method) reply ≡ 12
+  unfolding reply replyCause
+  cut-reply =
+      let n = third reply 1 (ap (λ (w : Walk). w .number) two) cut-short in
+      let e = message-cut 31 3 reply (omega arith) (o .reply-length) refl (λ z. omega (arith, n)) in
+      orElse-first _ _ (λ z. omega (arith, e)) ∙ sym e
+
 pub worked : (o : Choice) → map (λ (e : Example). e .found) (examples o) ≡ map (λ (e : Example). e .stated) (examples o)
-unfolding shortest string whole readString readMpint rows rowOf
-worked o = rw (low-is o, lower-is o, needed (o .r), o .r-length)
+unfolding shortest string whole readString readMpint rows rowOf secretCause causeUnless causeIf reply
+worked o = rw (low-is o, lower-is o, needed (o .r), o .r-length, o .digest-length, cut-reply o)
 
 -- there is such a choice, so the table is not about nothing
 pub choice : Choice
+unfolding string
 choice = record {
   b = 0;
   r = zeros 30;
@@ -49,4 +103,15 @@ choice = record {
   lower = 0xff ∷ 0x7f ∷ [];
   lower-bytes = bytes-cons 0xff (0x7f ∷ []) (omega arith) (bytes-cons 0x7f [] (omega arith) none);
   lower-value = refl;
+  digest = zeros 32;
+  digest-length = refl;
+  method = 4;
+  ks = 1 ∷ [];
+  s = 2 ∷ [];
+  cut = 0 ∷ 0 ∷ [];
+  cut-length = omega arith;
+  reply-length = short;
 }
+  where
+    short : length ((31 ∷ []) ++ (strings ((1 ∷ []) ∷ (2 ∷ []) ∷ []) ++ (0 ∷ 0 ∷ []))) ≤ 32768
+    short = omega arith

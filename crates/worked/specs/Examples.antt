@@ -1,17 +1,20 @@
--- Document 01, "Worked by hand": P1, P2 and P4 to P11, a line of one table each. An example that leaves bytes open holds for every
+-- Document 01, "Worked by hand": P1 to P12, a line of one table each (P3 has two). An example that leaves bytes open holds for every
 -- choice of them. Assumes nothing.
-use Prim.Native.Nat.{ℕ, _-_}
+use Prim.Native.Nat.{ℕ, _-_, _≤_}
 use mathlib.Core.Path.{_≡_}
 use mathlib.Core.List.{List, [], _∷_, _++_}
 use lib.ListN.{length, take, drop}
 use lib.IntN.{negsuc}
 use Rattle.wire.specs.Bytes.{Bytes, zeros}
-use Rattle.wire.specs.Strings.{string}
+use Rattle.wire.specs.Strings.{string, strings}
 use Rattle.mpint.specs.Mpint.{mpint, readMpint}
 use Rattle.mpint.specs.Value.{value}
 use Rattle.methods.specs.Ascii.{ascii}
 use Rattle.methods.specs.Rows.{rowOf}
 use Rattle.secret.specs.Secret.{kBytes}
+use Rattle.exchange.specs.Causes.{replyCause, secretCause}
+use Rattle.exchange.specs.declared.Classical.the-variants.{Given}
+use Rattle.exchange.specs.declared.Kem.the-variants.{Absent, Done}
 
 -- what an example is about: bytes; a body's length and how it begins; a refusal's number
 pub data Result : Type 0 where
@@ -24,8 +27,8 @@ pub record Example : Type 0 where
   pub found : Result
   pub stated : Result
 
--- what the examples leave open: the other bytes of X, 31 in P4 and P5 and 30 in P6 and P7; the two's complement bytes that
--- stand for -128 and for -129
+-- what the examples leave open: the digest in P3; the other bytes of X, 31 in P4 and P5 and 30 in P6 and P7; the two's complement bytes
+-- that stand for -128 and for -129; in P12 the method, K_S, S and what is left of the third length
 pub record Choice : Type 0 where
   pub b : ℕ
   pub r : List ℕ
@@ -36,6 +39,14 @@ pub record Choice : Type 0 where
   pub lower : List ℕ
   pub lower-bytes : Bytes lower
   pub lower-value : value lower ≡ negsuc 128
+  pub digest : List ℕ
+  pub digest-length : length digest ≡ 32
+  pub method : ℕ
+  pub ks : List ℕ
+  pub s : List ℕ
+  pub cut : List ℕ
+  pub cut-length : length cut ≤ 3
+  pub reply-length : length ((31 ∷ []) ++ (strings (ks ∷ s ∷ []) ++ cut)) ≤ 32768
 
 -- K from X in a method of numbers
 abbrev pub kIn : ℕ → List ℕ → List ℕ
@@ -51,6 +62,9 @@ examples o =
     record { found = bytes (kIn 4 (zeros 31 ++ 1 ∷ [])); stated = bytes (0 ∷ 0 ∷ 0 ∷ 1 ∷ 1 ∷ []) }
     -- P2: X of 32 zero bytes
     ∷ record { found = bytes (kIn 4 (zeros 32)); stated = bytes (0 ∷ 0 ∷ 0 ∷ 0 ∷ []) }
+    -- P3: X of 32 zero bytes, methods 1 and 9
+    ∷ record { found = refused (secretCause 1 1 (Given 32) (zeros 32) Absent [] [] []); stated = refused 16 }
+    ∷ record { found = refused (secretCause 1 9 (Given 32) (zeros 32) Done (o .digest) [] []); stated = refused 16 }
     -- P4: first byte 7f
     ∷ record { found = bodyIs 1 (kIn 4 (0x7f ∷ o .b ∷ o .r)); stated = body 32 (0x7f ∷ []) }
     -- P5: first byte 80
@@ -67,4 +81,6 @@ examples o =
     ∷ record { found = refused (readMpint (0 ∷ 0 ∷ 0 ∷ 2 ∷ 0x00 ∷ 0x7f ∷ []) .number); stated = refused 22 }
     -- P11: the string "ab"
     ∷ record { found = bytes (string (ascii "ab")); stated = bytes (0 ∷ 0 ∷ 0 ∷ 2 ∷ 0x61 ∷ 0x62 ∷ []) }
+    -- P12: a REPLY cut in its third length
+    ∷ record { found = refused (replyCause (o .method) ((31 ∷ []) ++ (strings (o .ks ∷ o .s ∷ []) ++ o .cut))); stated = refused 12 }
     ∷ []
