@@ -1,0 +1,4 @@
+pub mod LeafLaws
+pub mod ReadLaws
+pub mod SecretStepLaws
+pub mod SignLaws

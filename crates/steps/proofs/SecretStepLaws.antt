@@ -1,0 +1,225 @@
+-- What the secret step owes at its returns, and what it knows where it is accepted. Assumes nothing.
+use Prim.Native.Nat.{ℕ, _+_, _-_, _≤_}
+use mathlib.Core.Path.{_≡_, refl, sym, ap, _∙_}
+use mathlib.Core.List.{List, _++_}
+use native.Mathlib.Omega.{arith}
+use lib.ListN.{length, take, drop, length-append, length-drop, length-replicate}
+use lib.Seq.{length-take-le}
+use borrow.Author.Tests.{le-leb, eq-eqb, ne-eqb}
+use Rattle.wire.specs.Bytes.{zeros, onto, over, laid}
+use Rattle.wire.specs.Parts.{part, inside, bytesAt}
+use Rattle.wire.proofs.ByteLaws.{laid-fits, over-over, length-over}
+use Rattle.wire.proofs.PartLaws.{inside-fits}
+use Rattle.methods.specs.Rows.{rowOf, kMost}
+use Rattle.methods.specs.declared.Method.{Method}
+use Rattle.methods.proofs.MethodLaws.{Sound}
+use Rattle.methods.proofs.FormLaws.{length-most}
+use Rattle.messages.proofs.MessageLaws.{within-most}
+use Rattle.secret.specs.Secret.{kSize, kBytes, kept}
+use Rattle.secret.specs.declared.Secret.{Secret}
+use Rattle.secret.proofs.SecretLaws.{kept-fits, drop-zeros}
+use Rattle.transcript.specs.Fields.{field, fieldLength, around}
+use Rattle.transcript.proofs.RoomLaws.{length-field, take-onto}
+use Rattle.exchange.specs.Causes.{roomLeast, secretCause, ownOk, kOf}
+use Rattle.exchange.specs.Steps.{secret, fedCause, numbered, number, headEnd, fieldsEnd, standingC, withS, at, kRecord, filled, taken, countOf, secondOf, roomAfter, answered, Small}
+use Rattle.exchange.specs.declared.Classical.{Classical}
+use Rattle.exchange.specs.declared.Kem.{Kem}
+use Rattle.exchange.specs.declared.Stage.the-variants.{SecretDone}
+use Rattle.exchange.specs.declared.Lengths.{Lengths}
+use Rattle.exchange.specs.declared.Exchange.{Exchange}
+use Rattle.exchange.specs.declared.Step.{Step}
+use Rattle.exchange.proofs.CauseFacts.{secret-known, own-sized, key-sized, method-row}
+use Rattle.exchange.proofs.StepLaws.{step-accepted, step-known, Bounded, bounded, small, all-most}
+
+-- ---- K and its record
+
+-- the record that `kept` gives
+record-kept : (k : List ℕ) → length k ≤ kSize → k ++ zeros (kSize - length k) ≡ kRecord k
+unfolding kRecord onto
+record-kept k h = ap (λ (z : List ℕ). k ++ z) (sym (drop-zeros (length k) kSize h))
+
+-- it is whole
+pub length-record : (k : List ℕ) → length k ≤ kSize → length (kRecord k) ≡ kSize
+unfolding kRecord onto
+length-record k h =
+    let a = length-append k (drop (length k) (zeros kSize)) in
+    let b = length-drop (length k) (zeros kSize) in
+    let c = length-replicate {A = ℕ} kSize 0 in
+    omega arith
+
+-- K stands at the record's beginning
+record-begins : (k : List ℕ) → take (length k) (kRecord k) ≡ k
+unfolding kRecord
+record-begins k = take-onto (zeros kSize) k
+
+record-part : (k : List ℕ) → length k ≤ kSize → bytesAt (kRecord k) (inside (length (kRecord k)) (part 0 (length k))) ≡ k
+record-part k h =
+    let l = length-record k h in
+    ap (bytesAt (kRecord k)) (inside-fits (length (kRecord k)) (part 0 (length k)) (omega arith)) ∙ record-begins k
+
+-- what is handed on as K, by what `k_of` gave
+key-part : (k : List ℕ) (len : ℕ) (bytes src : List ℕ) → length k ≤ kSize → len ≡ length k → bytes ≡ kRecord k
+    → src ≡ bytesAt bytes (inside (length bytes) (part 0 len)) → src ≡ k
+key-part k len bytes src h l b f = f ∙ (λ i. bytesAt (b i) (inside (length (b i)) (part 0 (l i)))) ∙ record-part k h
+
+-- what `k_of` gave
+pub key-kept : (m : ℕ) (w : Method) (g : Secret) (x d : List ℕ) → length (kOf m x d) ≤ kSize → w ≡ rowOf m → g ≡ kept (kBytes (w .«k_form») x d)
+    → (g .len ≡ length (kOf m x d)) × (g .bytes ≡ kRecord (kOf m x d))
+key-kept m w g x d h r f =
+    let e : g ≡ record { number = 0; len = length (kOf m x d); bytes = kOf m x d ++ zeros (kSize - length (kOf m x d)) } =
+    f ∙ ap (λ (v : Method). kept (kBytes (v .«k_form») x d)) r ∙ sym (kept-fits (kOf m x d) h) in
+    (ap (λ (v : Secret). v .len) e, ap (λ (v : Secret). v .bytes) e ∙ record-kept (kOf m x d) h)
+
+-- ---- the room
+
+-- fields around C, and K behind them
+room-server : (l : Lengths) (room ks s k : List ℕ) → fieldsEnd (withS l (length ks) (length s)) + length k ≤ length room
+    → laid (around room (headEnd l) (fieldLength (l .c)) ks s) (fieldsEnd (withS l (length ks) (length s))) k
+    ≡ over room (headEnd l) (field ks ++ standingC l room ++ field s ++ k)
+unfolding around
+room-server l room ks s k h =
+    let a = length-field ks in
+    let b = length-field s in
+    let f = length-drop (headEnd l) room in
+    let c : length (standingC l room) ≡ fieldLength (l .c) = length-take-le (fieldLength (l .c)) (drop (headEnd l) room) (omega arith) in
+    let p : List ℕ = field ks ++ standingC l room ++ field s in
+    let n : headEnd l + length p ≡ fieldsEnd (withS l (length ks) (length s)) = omega (arith, length-append (field ks ++ standingC l room) (field s), length-append (field ks) (standingC l room)) in
+    let g : headEnd l + length p ≤ length room = omega arith in
+    let o = length-over room (headEnd l) p g in
+    rw (le-leb (headEnd l + length (field ks) + fieldLength (l .c) + length (field s)) (length room) (omega arith))
+    (laid-fits (over room (headEnd l) p) (fieldsEnd (withS l (length ks) (length s))) k (omega arith)
+    ∙ ap (λ (j : ℕ). over (over room (headEnd l) p) j k) (sym n)
+    ∙ over-over room (headEnd l) p k g)
+
+-- ---- the step
+
+-- what it knows where it is accepted
+pub record SecretFits (e : Exchange) (room x d : List ℕ) : Type 0 where
+  pub row : Sound (rowOf (e .method))
+  pub bounds : Bounded (rowOf (e .method)) (e .lens)
+  pub sums : Small (e .lens)
+  pub room-least : roomLeast ≤ length room
+  pub k-row : length (kOf (e .method) x d) ≤ 4 + kMost (rowOf (e .method))
+  pub k-fits : length (kOf (e .method) x d) ≤ kSize
+  pub all-fits : fieldsEnd (e .lens) + length (kOf (e .method) x d) ≤ roomLeast
+
+-- and a server beside: K_S and S are of the method's lengths
+pub record ServerFits (e : Exchange) (x d ks s : List ℕ) : Type 0 where
+  pub sums : Small (withS (e .lens) (length ks) (length s))
+  pub all-fits : fieldsEnd (withS (e .lens) (length ks) (length s)) + length (kOf (e .method) x d) ≤ roomLeast
+
+module _ (e : Exchange) (room : List ℕ) (cl : Classical) (x : List ℕ) (kem : Kem) (d ks s : List ℕ) where
+  -- the number that the code asks for is the step's
+  pub secret-number : (fed n : ℕ) → fed ≡ secretCause (e .role) (e .method) cl x kem d ks s → n ≡ numbered 4 e (length room) fed
+      → n ≡ number e room (secret cl x kem d ks s)
+  unfolding number fedCause
+  secret-number fed n f g = g ∙ ap (numbered 4 e (length room)) f
+
+  cause-none : number e room (secret cl x kem d ks s) ≡ 0 → secretCause (e .role) (e .method) cl x kem d ks s ≡ 0
+  unfolding fedCause
+  cause-none z = step-known e room (secret cl x kem d ks s) z .2
+
+  module _ (z : number e room (secret cl x kem d ks s) ≡ 0) where
+    -- lengths and K are within their bounds
+    pub secret-fits : SecretFits e room x d
+    secret-fits =
+        let a = step-known e room (secret cl x kem d ks s) z in
+        let r = method-row (e .method) (a .0 .method-ok) in
+        let b = bounded (rowOf (e .method)) (e .stage) (e .lens) (a .0 .lengths) in
+        let k = key-sized (e .role) (e .method) cl x kem d ks s (a .0 .method-ok) (cause-none z) .most in
+        record {
+          row = r;
+          bounds = b;
+          sums = small (rowOf (e .method)) (e .lens) r b;
+          room-least = a .1;
+          k-row = k;
+          k-fits = omega (arith, r .k-most);
+          all-fits = all-most (rowOf (e .method)) (e .lens) r b (length (kOf (e .method) x d)) k;
+        }
+
+    -- and so are the lengths with K_S and S
+    pub server-fits : e .role ≡ 2 → ServerFits e x d ks s
+    server-fits h =
+        let f = secret-fits in
+        let o = own-sized (e .method) ks s (ap (λ (r : ℕ). ownOk r (e .method) ks s) (sym h) ∙ secret-known (e .role) (e .method) cl x kem d ks s (cause-none z) .3) in
+        let b : Bounded (rowOf (e .method)) (withS (e .lens) (length ks) (length s)) = record {
+          vc = f .bounds .vc;
+          vs = f .bounds .vs;
+          ic = f .bounds .ic;
+          is = f .bounds .is;
+          ks = within-most 1 2048 (length ks) (o .0 .ok);
+          c = f .bounds .c;
+          s = length-most (rowOf (e .method) .s) (length s) (o .1 .ok);
+        } in
+        record {
+          sums = small (rowOf (e .method)) (withS (e .lens) (length ks) (length s)) (f .row) b;
+          all-fits = all-most (rowOf (e .method)) (withS (e .lens) (length ks) (length s)) (f .row) b (length (kOf (e .method) x d)) (f .k-row);
+        }
+
+    -- the exchange, the counts and the room of an accepted step, by the role
+    taken-client : (e .role ≡ 2 → ⊥) → at e SecretDone (e .lens) (kRecord (kOf (e .method) x d)) ≡ taken e (secret cl x kem d ks s)
+    unfolding taken
+    taken-client h = rw (ne-eqb (e .role) 2 h)
+
+    taken-server : e .role ≡ 2 → at e SecretDone (withS (e .lens) (length ks) (length s)) (kRecord (kOf (e .method) x d)) ≡ taken e (secret cl x kem d ks s)
+    unfolding taken
+    taken-server h = rw (eq-eqb (e .role) 2 h)
+
+    count-is : (l : Lengths) (k : List ℕ) → at e SecretDone l k ≡ taken e (secret cl x kem d ks s)
+        → fieldsEnd l + length (kOf (e .method) x d) ≡ countOf e room (secret cl x kem d ks s)
+    unfolding countOf
+    count-is l k t = ap (λ (y : Exchange). fieldsEnd (y .lens) + length (kOf (e .method) x d)) t
+
+    second-is : 0 ≡ secondOf e (secret cl x kem d ks s)
+    unfolding secondOf
+    second-is = refl
+
+    answer : (l : Lengths) (end len : ℕ) (bytes : List ℕ) → at e SecretDone l (kRecord (kOf (e .method) x d)) ≡ taken e (secret cl x kem d ks s)
+        → end ≡ fieldsEnd l → len ≡ length (kOf (e .method) x d) → bytes ≡ kRecord (kOf (e .method) x d)
+        → _≡_ {A = Step} (record { number = 0; count = end + len; second = 0; exchange = at e SecretDone l bytes }) (answered e room (secret cl x kem d ks s))
+    answer l end len bytes t f g b =
+        let c : end + len ≡ countOf e room (secret cl x kem d ks s) = (λ i. f i + g i) ∙ count-is l (kRecord (kOf (e .method) x d)) t in
+        let y : at e SecretDone l bytes ≡ taken e (secret cl x kem d ks s) = ap (at e SecretDone l) b ∙ t in
+        (λ i. record { number = 0; count = c i; second = second-is i; exchange = y i }) ∙ step-accepted e room (secret cl x kem d ks s) z .0
+
+    filled-client : (e .role ≡ 2 → ⊥) → over room (fieldsEnd (e .lens)) (kOf (e .method) x d) ≡ filled e room (secret cl x kem d ks s)
+    unfolding filled
+    filled-client h = rw (ne-eqb (e .role) 2 h)
+
+    filled-server : e .role ≡ 2
+        → over room (headEnd (e .lens)) (field ks ++ standingC (e .lens) room ++ field s ++ kOf (e .method) x d) ≡ filled e room (secret cl x kem d ks s)
+    unfolding filled
+    filled-server h = rw (eq-eqb (e .role) 2 h)
+
+    -- what a client answers and leaves
+    pub client-done : (e .role ≡ 2 → ⊥) → (end len : ℕ) (bytes src left : List ℕ) → end ≡ fieldsEnd (e .lens) → len ≡ length (kOf (e .method) x d)
+        → bytes ≡ kRecord (kOf (e .method) x d) → src ≡ bytesAt bytes (inside (length bytes) (part 0 len)) → left ≡ laid room end src
+        → (_≡_ {A = Step} (record { number = 0; count = end + len; second = 0; exchange = at e SecretDone (e .lens) bytes }) (answered e room (secret cl x kem d ks s)))
+        × (left ≡ roomAfter e room (secret cl x kem d ks s))
+    client-done h end len bytes src left f g b p w =
+        let t = secret-fits in
+        let k = key-part (kOf (e .method) x d) len bytes src (t .k-fits) g b p in (
+          answer (e .lens) end len bytes (taken-client h) f g b,
+          w ∙ (λ i. laid room (f i) (k i))
+              ∙ laid-fits room (fieldsEnd (e .lens)) (kOf (e .method) x d) (omega (arith, t .room-least, t .all-fits))
+              ∙ filled-client h
+              ∙ step-accepted e room (secret cl x kem d ks s) z .1,
+        )
+
+    -- what a server answers and leaves
+    pub server-done : e .role ≡ 2 → (start size end len : ℕ) (bytes src mid left : List ℕ) → start ≡ headEnd (e .lens) → size ≡ fieldLength (e .lens .c)
+        → mid ≡ around room start size ks s → end ≡ fieldsEnd (withS (e .lens) (length ks) (length s)) → len ≡ length (kOf (e .method) x d)
+        → bytes ≡ kRecord (kOf (e .method) x d) → src ≡ bytesAt bytes (inside (length bytes) (part 0 len)) → left ≡ laid mid end src
+        → (_≡_ {A = Step} (record { number = 0; count = end + len; second = 0; exchange = at e SecretDone (withS (e .lens) (length ks) (length s)) bytes }) (answered e room (secret cl x kem d ks s)))
+        × (left ≡ roomAfter e room (secret cl x kem d ks s))
+    server-done h start size end len bytes src mid left a c m f g b p w =
+        let t = secret-fits in
+        let u = server-fits h in
+        let k = key-part (kOf (e .method) x d) len bytes src (t .k-fits) g b p in
+        let o : mid ≡ around room (headEnd (e .lens)) (fieldLength (e .lens .c)) ks s = m ∙ (λ i. around room (a i) (c i) ks s) in (
+          answer (withS (e .lens) (length ks) (length s)) end len bytes (taken-server h) f g b,
+          w ∙ (λ i. laid (o i) (f i) (k i))
+              ∙ room-server (e .lens) room ks s (kOf (e .method) x d) (omega (arith, t .room-least, u .all-fits))
+              ∙ filled-server h
+              ∙ step-accepted e room (secret cl x kem d ks s) z .1,
+        )

@@ -1,0 +1,26 @@
+-- `steps::put_init` meets its contract. Assumes nothing.
+use borrow.Author.Needs.{needs}
+use native.Mathlib.Omega.{arith}
+use denote.Ref.{now}
+use Rattle.steps.proofs.LeafLaws.{length-init, init-laid, init-length}
+use Rattle.steps.proofs.put_init.Statement.{statement}
+use Rattle.steps.proofs.put_init.Tie as tie
+
+slice-write-out : tie.Need-slice-write-out
+slice-write-out c = let n = length-init (now (c .before .before .args .c)) in omega (arith, c .before .before .pre)
+
+put-string-requires : tie.Need-put-string-requires
+put-string-requires c κs = search needs
+
+same-length : tie.Need-same-length
+same-length c =
+    let s = c .before .before .before .before .before .before in
+    let a = s .args in init-length (now (a .out)) (now (a .c)) _ (s .pre) (c .before .before .put-string .ensures)
+
+returns : tie.Need-returns
+returns c =
+    let s = c .before .before .before .before .before .before in
+    let a = s .args in init-laid (now (a .out)) (now (a .c)) _ (s .pre) (c .before .before .put-string .ensures)
+
+pub put-init-spec : {M : Type 1} → statement M
+put-init-spec = tie.close (tie.spec slice-write-out put-string-requires same-length returns)

@@ -1,0 +1,34 @@
+-- `steps::reply_part` meets its contract. Assumes nothing.
+use borrow.Author.Needs.{needs}
+use native.Mathlib.Omega.{arith}
+use denote.Ref.{now}
+use Rattle.steps.proofs.LeafLaws.{reply-number, part-refused, part-accepted}
+use Rattle.exchange.specs.Steps.{reply}
+use Rattle.steps.proofs.reply_part.Statement.{statement}
+use Rattle.steps.proofs.reply_part.Tie as tie
+
+reply-cause-requires : tie.Need-reply-cause-requires
+reply-cause-requires c κs = search needs
+
+step-number-requires : tie.Need-step-number-requires
+step-number-requires c κs = search needs
+
+returns : tie.Need-returns
+returns c =
+    let a = c .before .before .before .before .before .args in
+    let f = reply-number (a .e) (now (a .room)) (now (a .payload)) _ _ (c .before .before .reply-cause .ensures) (c .before .step-number .ensures) in
+    part-refused (a .e) (now (a .room)) (reply (now (a .payload))) (now (a .payload)) (a .i) _ f (c .if1 .taken)
+
+field-part-requires : tie.Need-field-part-requires
+field-part-requires c κs = search needs
+
+returns-2 : tie.Need-returns-2
+returns-2 c =
+    let a = c .before .before .before .before .before .before .args in
+    let f = reply-number (a .e) (now (a .room)) (now (a .payload)) _ _ (c .before .before .before .reply-cause .ensures) (c .before .before .step-number .ensures) in
+    part-accepted (a .e) (now (a .room)) (reply (now (a .payload))) (now (a .payload)) (a .i) _ f (omega arith) _ (c .field-part .ensures)
+
+pub reply-part-spec : {M : Type 1} → statement M
+reply-part-spec =
+    tie.close
+    (tie.spec reply-cause-requires step-number-requires returns field-part-requires returns-2)

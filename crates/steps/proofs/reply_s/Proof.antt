@@ -1,0 +1,24 @@
+-- `steps::reply_s` meets its contract. Assumes nothing.
+use borrow.Author.Needs.{needs}
+use lib.ListN.{length}
+use denote.Ref.{now}
+use Rattle.wire.proofs.PartLaws.{part-read}
+use Rattle.steps.proofs.LeafLaws.{part-within}
+use Rattle.exchange.specs.Steps.{reply, stepPart}
+use Rattle.steps.proofs.reply_s.Statement.{statement}
+use Rattle.steps.proofs.reply_s.Tie as tie
+
+reply-part-requires : tie.Need-reply-part-requires
+reply-part-requires c κs = search needs
+
+part-of-requires : tie.Need-part-of-requires
+part-of-requires c κs = search needs
+
+returns : tie.Need-returns
+returns c =
+    let a = c .before .before .before .before .args in
+    let p = now (a .payload) in
+    part-read (length p) p (a .payload) (c .part-of .result) (c .before .reply-part .result) (stepPart (a .e) (now (a .room)) (reply p) p 1) (c .before .reply-part .ensures) (part-within (a .e) (now (a .room)) (reply p) p 1) (c .part-of .ensures)
+
+pub reply-s-spec : {M : Type 1} → statement M
+reply-s-spec = tie.close (tie.spec reply-part-requires part-of-requires returns)
