@@ -12,7 +12,6 @@ use borrow.Author.Tests.{le-ltb, eq-eqb, ne-eqb}
 use Rattle.wire.specs.Bytes.{zeros}
 use Rattle.wire.proofs.CauseLaws.{if-fails, unless-holds, orElse-second}
 use Rattle.wire.proofs.StringLaws.{and-true}
-use Rattle.wire.proofs.StringsLaws.{length-strings}
 use Rattle.methods.specs.Rows.{rowOf}
 use Rattle.methods.specs.Form.{lengthFits, leadFits, formed}
 use Rattle.methods.specs.declared.KForm.{KForm}
@@ -22,6 +21,7 @@ use Rattle.methods.specs.declared.Method.{Method}
 use Rattle.methods.proofs.MethodLaws.{Sound}
 use Rattle.methods.proofs.FormLaws.{formed-complete}
 use Rattle.messages.specs.Messages.{within, initBytes, replyBytes, messageCause, fieldOf}
+use Rattle.messages.proofs.MessageLaws.{length-init, length-reply}
 use Rattle.messages.proofs.RoundTrip.{init-complete, reply-complete}
 use Rattle.secret.specs.Secret.{leadingZeros}
 use Rattle.exchange.specs.Causes.{roomLeast, initLeast, replyLeast, kLeast, blobOk, methodOk, roleOk, versionOk, kexinitOk, startCause, ownCCause, initCause, replyCause, xOk, hybrid, present, kemOk, digestFor, digestOk, ownOk, allZero, xBad, kemBad, secretCause, signCause, verdictCause}
@@ -54,14 +54,6 @@ ones-some zero h = let w : ⊥ = omega arith in absurd w
 ones-some (suc n) h = ne-eqb 0 (suc (length (replicate n 1))) (λ e. omega arith)
 
 -- ---- no cause against any of the calls
-
-length-init : (c : List ℕ) → length (initBytes c) ≡ 5 + length c
-unfolding initBytes
-length-init c = omega (arith, length-strings c [])
-
-length-reply : (ks s g : List ℕ) → length (replyBytes ks s g) ≡ 13 + length ks + length s + length g
-unfolding replyBytes
-length-reply ks s g = omega (arith, length-strings ks (s ∷ g ∷ []), length-strings s (g ∷ []), length-strings g [])
 
 module _ (m : ℕ) (row : Sound (rowOf m)) where
   own-c-fed : ownCCause m (value (rowOf m .c)) (length (zeros initLeast)) ≡ 0

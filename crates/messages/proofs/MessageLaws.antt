@@ -1,7 +1,7 @@
 -- Laws of `specs/Messages.antt`. Assumes nothing.
 use Prim.Native.Nat.{ℕ, _+_, _≤_, _<_}
 use mathlib.Core.Path.{_≡_, refl, sym, ap, _∙_}
-use mathlib.Core.List.{List}
+use mathlib.Core.List.{List, [], _∷_}
 use mathlib.Core.Bool.{Bool, true, false, _&&_}
 use native.Mathlib.Omega.{arith}
 use lib.ListN.{length, getD}
@@ -11,7 +11,18 @@ use Rattle.wire.specs.Causes.{causeIf}
 use Rattle.wire.specs.Strings.{walk}
 use Rattle.wire.proofs.CauseLaws.{if-holds, if-fails, unless-holds, unless-fails}
 use Rattle.wire.proofs.StringLaws.{and-true}
-use Rattle.messages.specs.Messages.{within, messageCause}
+use Rattle.wire.proofs.StringsLaws.{length-strings}
+use Rattle.messages.specs.Messages.{within, initBytes, replyBytes, messageCause}
+
+-- ---- initBytes and replyBytes
+
+pub length-init : (c : List ℕ) → length (initBytes c) ≡ 5 + length c
+unfolding initBytes
+length-init c = omega (arith, length-strings c [])
+
+pub length-reply : (ks s g : List ℕ) → length (replyBytes ks s g) ≡ 13 + length ks + length s + length g
+unfolding replyBytes
+length-reply ks s g = omega (arith, length-strings ks (s ∷ g ∷ []), length-strings s (g ∷ []), length-strings g [])
 
 -- ---- within
 

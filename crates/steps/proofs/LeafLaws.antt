@@ -15,7 +15,7 @@ use Rattle.wire.specs.Strings.{string, strings}
 use Rattle.wire.specs.declared.Part.{Part}
 use Rattle.wire.proofs.ByteLaws.{over-zero, length-over, length-onto, over-over, laid-fits}
 use Rattle.wire.proofs.StringLaws.{length-string}
-use Rattle.wire.proofs.StringsLaws.{length-strings}
+use Rattle.messages.proofs.MessageLaws.{length-init, length-reply}
 use Rattle.messages.specs.Messages.{initBytes, replyBytes, fieldPart}
 use Rattle.messages.proofs.MessageLaws.{within-least, within-most}
 use Rattle.secret.specs.Secret.{kSize}
@@ -137,20 +137,6 @@ head-laid room vc vs ic is f o1 o2 o3 o4 e1 e2 e3 e4 =
     begun-onto _ _ _ _ p4
 
 -- ---- INIT and REPLY
-
--- their lengths, by those of the strings
-pub length-init : (c : List ℕ) → length (initBytes c) ≡ 5 + length c
-unfolding initBytes
-length-init c = let n = length-strings c [] in length-append (30 ∷ []) (strings (c ∷ [])) ∙ omega arith
-
--- and of REPLY
-pub length-reply : (ks s g : List ℕ) → length (replyBytes ks s g) ≡ 13 + length ks + length s + length g
-unfolding replyBytes
-length-reply ks s g =
-    let n1 = length-strings ks (s ∷ g ∷ []) in
-    let n2 = length-strings s (g ∷ []) in
-    let n3 = length-strings g [] in
-    length-append (31 ∷ []) (strings (ks ∷ s ∷ g ∷ [])) ∙ omega arith
 
 init-pieces : (c : List ℕ) → (30 ∷ []) ++ string c ≡ initBytes c
 unfolding initBytes

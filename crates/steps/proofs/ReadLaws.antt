@@ -9,7 +9,7 @@ use borrow.Author.Tests.{le-leb, ltb-false}
 use Rattle.wire.specs.Bytes.{onto, over, laid}
 use Rattle.wire.proofs.ByteLaws.{laid-fits}
 use Rattle.wire.proofs.CauseLaws.{if-none, unless-none}
-use Rattle.wire.proofs.StringsLaws.{length-strings}
+use Rattle.messages.proofs.MessageLaws.{length-init}
 use Rattle.methods.specs.Rows.{rowOf}
 use Rattle.methods.specs.Form.{formed}
 use Rattle.methods.proofs.FormLaws.{length-most}
@@ -27,11 +27,6 @@ use Rattle.exchange.specs.declared.Step.{Step}
 use Rattle.exchange.proofs.CauseFacts.{SizedC, method-row, own-c-sized, init-sized, reply-sized}
 use Rattle.exchange.proofs.DueLaws.{Fitting, Due}
 use Rattle.exchange.proofs.StepLaws.{bounded, small, head-most, started-lengths, next-1, next-2, step-known, step-refused, step-accepted, output-refused, output-accepted}
-
--- INIT is one byte and one string
-pub length-init : (c : List ℕ) → length (initBytes c) ≡ 5 + length c
-unfolding initBytes
-length-init c = let n = length-strings c [] in omega arith
 
 -- a missing field takes nothing
 none : (n : ℕ) → n ≡ 0 → fieldLength n ≡ 0

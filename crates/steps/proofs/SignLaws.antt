@@ -16,7 +16,7 @@ use Rattle.wire.proofs.ByteLaws.{laid-fits, over-zero}
 use Rattle.wire.proofs.CauseLaws.{if-none, unless-none}
 use Rattle.wire.proofs.PartLaws.{inside-fits}
 use Rattle.wire.proofs.StringLaws.{number-at}
-use Rattle.wire.proofs.StringsLaws.{length-strings}
+use Rattle.messages.proofs.MessageLaws.{length-reply}
 use Rattle.methods.specs.Rows.{rowOf}
 use Rattle.messages.specs.Messages.{replyBytes}
 use Rattle.messages.proofs.MessageLaws.{within-most}
@@ -48,10 +48,6 @@ part-stands room start n k e h = ap (λ (m : ℕ). bytesAt room (inside (length 
 
 pub part-length : (room : List ℕ) (n k : ℕ) → k + n ≤ length room → length (take n (drop k room)) ≡ n
 part-length room n k h = length-take-le n (drop k room) (omega (arith, length-drop k room))
-
-pub reply-length : (ks s g : List ℕ) → length (replyBytes ks s g) ≡ 13 + length ks + length s + length g
-unfolding replyBytes
-reply-length ks s g = omega (arith, length-strings ks (s ∷ g ∷ []), length-strings s (g ∷ []), length-strings g [])
 
 -- ---- the signature step
 
@@ -128,7 +124,7 @@ module _ (e : Exchange) (room g out kOut : List ℕ) where
   reply-sized h =
       omega (
         arith,
-        reply-length (standingKS (e .lens) room) (standingS (e .lens) room) g,
+        length-reply (standingKS (e .lens) room) (standingS (e .lens) room) g,
         part-length room (e .lens .ks) (headEnd (e .lens) + 4) (h .ks-there),
         part-length room (e .lens .s) (headEnd (e .lens) + fieldLength (e .lens .ks) + fieldLength (e .lens .c) + 4) (h .s-there),
       )

@@ -2,7 +2,8 @@
 use borrow.Author.Needs.{needs}
 use native.Mathlib.Omega.{arith}
 use denote.Ref.{now}
-use Rattle.steps.proofs.LeafLaws.{length-init, init-laid, init-length}
+use Rattle.messages.proofs.MessageLaws.{length-init}
+use Rattle.steps.proofs.LeafLaws.{init-laid, init-length}
 use Rattle.steps.proofs.put_init.Statement.{statement}
 use Rattle.steps.proofs.put_init.Tie as tie
 

@@ -2,7 +2,8 @@
 use borrow.Author.Needs.{needs}
 use native.Mathlib.Omega.{arith}
 use denote.Ref.{now}
-use Rattle.steps.proofs.LeafLaws.{length-reply, reply-laid, reply-length}
+use Rattle.messages.proofs.MessageLaws.{length-reply}
+use Rattle.steps.proofs.LeafLaws.{reply-laid, reply-length}
 use Rattle.steps.proofs.put_reply.Statement.{statement}
 use Rattle.steps.proofs.put_reply.Tie as tie
 
