@@ -57,6 +57,14 @@ pub goOn-negsuc : (v : ℕ) (l : List ℕ) → Bytes l → goOn (negsuc v) l ≡
 goOn-negsuc v [] h = refl
 goOn-negsuc v (b ∷ r) h = ap (λ (k : ℤ). goOn k r) (negsuc-byte v b (h 0)) ∙ goOn-negsuc (v * 256 + (255 - b)) r (bytes-tail b r h)
 
+-- two's complement, as the textbook has it: with the top bit clear the bytes are the number, with it set the complement of every
+-- bit is what is missing to -1
+pub value-clear : (a : ℕ) (r : List ℕ) → a < 128 → value (a ∷ r) ≡ pos (unsigned (a ∷ r))
+value-clear a r h = ap (λ (t : Bool). goOn (cond t (pos 0) (negsuc 0)) (a ∷ r)) (lt-ltb a 128 h) ∙ goOn-pos 0 (a ∷ r)
+
+pub value-set : (a : ℕ) (r : List ℕ) → 128 ≤ a → Bytes (a ∷ r) → value (a ∷ r) ≡ negsuc (unsigned (map (λ (b : ℕ). 255 - b) (a ∷ r)))
+value-set a r h y = ap (λ (t : Bool). goOn (cond t (pos 0) (negsuc 0)) (a ∷ r)) (le-ltb a 128 h) ∙ goOn-negsuc 0 (a ∷ r) y
+
 goOnℕ-grows : (v : ℕ) (l : List ℕ) → v ≤ goOnℕ v l
 goOnℕ-grows v [] = omega arith
 goOnℕ-grows v (b ∷ r) = let h = goOnℕ-grows (v * 256 + b) r in omega arith
