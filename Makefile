@@ -15,3 +15,5 @@ test: vectors
 vectors:
 	python3 tests/pack_captures.py --check
 	python3 tests/expect_kexinit.py --check
+	python3 tests/pack_exchanges.py --check
+	python3 tests/expect_exchange.py --check

@@ -1,0 +1,58 @@
+#!/usr/bin/env python3
+"""Packs the exchanges of tests/captures for the program exchange_run.
+
+usage: pack_exchanges.py [--check]
+
+For each capture, sorted by file name, fifteen fields, each behind four length bytes, the highest first: our role (1 client, 2 server) and
+the method, a byte each; V_C, V_S, I_C, I_S, C, X, digest, K_S, S, INIT, REPLY, K; and the hash input's length in four bytes. Writes
+crates/exchange_run/data/exchanges; with --check it only compares, and exits 1 where that file is stale.
+"""
+import pathlib
+import sys
+
+ROOT = pathlib.Path(__file__).resolve().parent.parent
+PACKED = ROOT / "crates/exchange_run/data/exchanges"
+# What the program's buffer holds.
+MOST = 65536
+ROLES = {"client": 1, "server": 2}
+NAMES = ("V_C", "V_S", "I_C", "I_S", "C", "X", "digest", "K_S", "S", "INIT", "REPLY", "K")
+
+
+def field_bytes(text):
+    return b"" if text == "-" else bytes.fromhex(text)
+
+
+def exchanges():
+    """(file name, role, method, fields, hash input length) of each capture, sorted by file name."""
+    for path in sorted((ROOT / "tests/captures").glob("*.txt")):
+        words = dict(line.split(" ", 1) for line in path.read_text().splitlines())
+        fields = {name: field_bytes(words[name]) for name in NAMES}
+        yield path.name, ROLES[words["our_role"]], int(words["method"]), fields, int(words["hash_input_length"])
+
+
+def packed():
+    out = b""
+    for _, role, method, fields, length in exchanges():
+        parts = [bytes([role]), bytes([method]), *(fields[name] for name in NAMES), length.to_bytes(4, "big")]
+        out += b"".join(len(part).to_bytes(4, "big") + part for part in parts)
+    if MOST <= len(out):
+        sys.exit(f"pack_exchanges: {len(out)} bytes, and the program's buffer has {MOST}")
+    return out
+
+
+def main():
+    if sys.argv[1:] == ["--check"]:
+        if not PACKED.exists() or PACKED.read_bytes() != packed():
+            print(f"pack_exchanges: {PACKED.relative_to(ROOT)} is stale; run tests/pack_exchanges.py")
+            return 1
+        return 0
+    if sys.argv[1:]:
+        print(__doc__)
+        return 2
+    PACKED.parent.mkdir(exist_ok=True)
+    PACKED.write_bytes(packed())
+    return 0
+
+
+if __name__ == "__main__":
+    sys.exit(main())
