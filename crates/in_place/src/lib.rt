@@ -1,0 +1,167 @@
+// The steps on an exchange that is lent and changed in place: each calls the step by value, stores its exchange and answers its number
+// and counts. A contract's parts are those of the step by value.
+use exchange::Classical;
+use exchange::Exchange;
+use exchange::Kem;
+use exchange::Step;
+ghost use mathlib.Core.Path.{_≡_};
+ghost use Rattle.exchange.specs.Steps.{init, reply, secret as secretStep, verdict as verdictStep, number, answered, roomAfter, outputAfter};
+ghost use Rattle.in_place.specs.InPlace.{told, left};
+
+// What a step in place answers: its number and its counts.
+pub struct Answer {
+    pub number: u8,
+    pub count: usize,
+    pub second: usize,
+}
+
+// Server, INIT read, in place.
+pub fn read_init_in(e: &mut Exchange, room: &mut [u8], payload: &[u8]) -> Answer
+    ensures { λ r.
+        let q = init (now (payload .entry)) in
+        ⌜ (r ≡ told (now (e .entry)) (now (room .entry)) q) × (now (e .exit) ≡ left (now (e .entry)) (now (room .entry)) q) × (now (room .exit) ≡ roomAfter (now (e .entry)) (now (room .entry)) q) ⌝ }
+{
+    let r = steps::read_init(*e, room, payload);
+    *e = r.exchange;
+    Answer {
+        number: r.number,
+        count: r.count,
+        second: r.second,
+    }
+}
+
+// Client, REPLY read, in place.
+pub fn read_reply_in(e: &mut Exchange, room: &mut [u8], payload: &[u8]) -> Answer
+    ensures { λ r.
+        let q = reply (now (payload .entry)) in
+        ⌜ (r ≡ told (now (e .entry)) (now (room .entry)) q) × (now (e .exit) ≡ left (now (e .entry)) (now (room .entry)) q) × (now (room .exit) ≡ roomAfter (now (e .entry)) (now (room .entry)) q) ⌝ }
+{
+    let r = steps::read_reply(*e, room, payload);
+    *e = r.exchange;
+    Answer {
+        number: r.number,
+        count: r.count,
+        second: r.second,
+    }
+}
+
+// Both roles, the secret, in place.
+pub fn take_secret_in(
+    e: &mut Exchange,
+    room: &mut [u8],
+    cl: Classical,
+    x: &[u8],
+    kem: Kem,
+    digest: &[u8],
+    ks: &[u8],
+    s: &[u8],
+) -> Answer
+    ensures { λ r.
+        let q = secretStep cl (now (x .entry)) kem (now (digest .entry)) (now (ks .entry)) (now (s .entry)) in
+        ⌜ (r ≡ told (now (e .entry)) (now (room .entry)) q) × (now (e .exit) ≡ left (now (e .entry)) (now (room .entry)) q) × (now (room .exit) ≡ roomAfter (now (e .entry)) (now (room .entry)) q) ⌝ }
+{
+    let r = steps::take_secret(*e, room, cl, x, kem, digest, ks, s);
+    *e = r.exchange;
+    Answer {
+        number: r.number,
+        count: r.count,
+        second: r.second,
+    }
+}
+
+// Client, the verdict, in place.
+pub fn verdict_in(
+    e: &mut Exchange,
+    room: &mut [u8],
+    signature: bool,
+    host_key: bool,
+    k_out: &mut [u8],
+) -> Answer
+    ensures { λ r.
+        let q = verdictStep signature «host_key» (now («k_out» .entry)) in
+        ⌜ (r ≡ told (now (e .entry)) (now (room .entry)) q) × (now (e .exit) ≡ left (now (e .entry)) (now (room .entry)) q) × (now (room .exit) ≡ roomAfter (now (e .entry)) (now (room .entry)) q) × (now («k_out» .exit) ≡ outputAfter (number (now (e .entry)) (now (room .entry)) q) (now («k_out» .entry)) ((now (e .entry)) .k)) ⌝ }
+{
+    let r = steps::verdict(*e, room, signature, host_key, k_out);
+    *e = r.exchange;
+    Answer {
+        number: r.number,
+        count: r.count,
+        second: r.second,
+    }
+}
+
+// The steps in place on a copy: their parameters are plain, so a caller needs no walk.
+pub fn read_init_through(e: Exchange, room: &mut [u8], payload: &[u8]) -> Step
+    ensures { λ r.
+        let q = init (now (payload .entry)) in
+        ⌜ (r ≡ answered e (now (room .entry)) q) × (now (room .exit) ≡ roomAfter e (now (room .entry)) q) ⌝ }
+{
+    let mut y = e;
+    let a = read_init_in(&mut y, room, payload);
+    Step {
+        number: a.number,
+        count: a.count,
+        second: a.second,
+        exchange: y,
+    }
+}
+
+pub fn read_reply_through(e: Exchange, room: &mut [u8], payload: &[u8]) -> Step
+    ensures { λ r.
+        let q = reply (now (payload .entry)) in
+        ⌜ (r ≡ answered e (now (room .entry)) q) × (now (room .exit) ≡ roomAfter e (now (room .entry)) q) ⌝ }
+{
+    let mut y = e;
+    let a = read_reply_in(&mut y, room, payload);
+    Step {
+        number: a.number,
+        count: a.count,
+        second: a.second,
+        exchange: y,
+    }
+}
+
+pub fn take_secret_through(
+    e: Exchange,
+    room: &mut [u8],
+    cl: Classical,
+    x: &[u8],
+    kem: Kem,
+    digest: &[u8],
+    ks: &[u8],
+    s: &[u8],
+) -> Step
+    ensures { λ r.
+        let q = secretStep cl (now (x .entry)) kem (now (digest .entry)) (now (ks .entry)) (now (s .entry)) in
+        ⌜ (r ≡ answered e (now (room .entry)) q) × (now (room .exit) ≡ roomAfter e (now (room .entry)) q) ⌝ }
+{
+    let mut y = e;
+    let a = take_secret_in(&mut y, room, cl, x, kem, digest, ks, s);
+    Step {
+        number: a.number,
+        count: a.count,
+        second: a.second,
+        exchange: y,
+    }
+}
+
+pub fn verdict_through(
+    e: Exchange,
+    room: &mut [u8],
+    signature: bool,
+    host_key: bool,
+    k_out: &mut [u8],
+) -> Step
+    ensures { λ r.
+        let q = verdictStep signature «host_key» (now («k_out» .entry)) in
+        ⌜ (r ≡ answered e (now (room .entry)) q) × (now (room .exit) ≡ roomAfter e (now (room .entry)) q) × (now («k_out» .exit) ≡ outputAfter (number e (now (room .entry)) q) (now («k_out» .entry)) (e .k)) ⌝ }
+{
+    let mut y = e;
+    let a = verdict_in(&mut y, room, signature, host_key, k_out);
+    Step {
+        number: a.number,
+        count: a.count,
+        second: a.second,
+        exchange: y,
+    }
+}
