@@ -17,3 +17,4 @@ vectors:
 	python3 tests/expect_kexinit.py --check
 	python3 tests/pack_exchanges.py --check
 	python3 tests/expect_exchange.py --check
+	python3 tests/expect_in_place.py --check

@@ -1,18 +1,18 @@
 #!/usr/bin/env python3
-"""Packs the exchanges of tests/captures for the program exchange_run.
+"""Packs the exchanges of tests/captures for the programs exchange_run and in_place_run.
 
 usage: pack_exchanges.py [--check]
 
 For each capture, sorted by file name, fifteen fields, each behind four length bytes, the highest first: our role (1 client, 2 server) and
 the method, a byte each; V_C, V_S, I_C, I_S, C, X, digest, K_S, S, INIT, REPLY, K; and the hash input's length in four bytes. Writes
-crates/exchange_run/data/exchanges; with --check it only compares, and exits 1 where that file is stale.
+data/exchanges of both crates; with --check it only compares, and exits 1 where a file is stale.
 """
 import pathlib
 import sys
 
 ROOT = pathlib.Path(__file__).resolve().parent.parent
-PACKED = ROOT / "crates/exchange_run/data/exchanges"
-# What the program's buffer holds.
+PACKED = [ROOT / "crates" / crate / "data/exchanges" for crate in ("exchange_run", "in_place_run")]
+# What a program's buffer holds.
 MOST = 65536
 ROLES = {"client": 1, "server": 2}
 NAMES = ("V_C", "V_S", "I_C", "I_S", "C", "X", "digest", "K_S", "S", "INIT", "REPLY", "K")
@@ -36,21 +36,22 @@ def packed():
         parts = [bytes([role]), bytes([method]), *(fields[name] for name in NAMES), length.to_bytes(4, "big")]
         out += b"".join(len(part).to_bytes(4, "big") + part for part in parts)
     if MOST <= len(out):
-        sys.exit(f"pack_exchanges: {len(out)} bytes, and the program's buffer has {MOST}")
+        sys.exit(f"pack_exchanges: {len(out)} bytes, and a program's buffer has {MOST}")
     return out
 
 
 def main():
     if sys.argv[1:] == ["--check"]:
-        if not PACKED.exists() or PACKED.read_bytes() != packed():
-            print(f"pack_exchanges: {PACKED.relative_to(ROOT)} is stale; run tests/pack_exchanges.py")
-            return 1
-        return 0
+        stale = [path for path in PACKED if not path.exists() or path.read_bytes() != packed()]
+        for path in stale:
+            print(f"pack_exchanges: {path.relative_to(ROOT)} is stale; run tests/pack_exchanges.py")
+        return 1 if stale else 0
     if sys.argv[1:]:
         print(__doc__)
         return 2
-    PACKED.parent.mkdir(exist_ok=True)
-    PACKED.write_bytes(packed())
+    for path in PACKED:
+        path.parent.mkdir(exist_ok=True)
+        path.write_bytes(packed())
     return 0
 
 
