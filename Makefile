@@ -15,6 +15,7 @@ test: vectors
 vectors:
 	python3 tests/pack_captures.py --check
 	python3 tests/expect_kexinit.py --check
+	python3 tests/expect_views.py --check
 	python3 tests/pack_exchanges.py --check
 	python3 tests/expect_exchange.py --check
 	python3 tests/expect_in_place.py --check

@@ -1,16 +1,16 @@
 #!/usr/bin/env python3
-"""Packs the KEXINIT payloads of tests/captures for the program kexinit_run.
+"""Packs the KEXINIT payloads of tests/captures for the programs kexinit_run and views_run.
 
 usage: pack_captures.py [--check]
 
 For each capture, sorted by name, I_C and then I_S, each behind four length bytes, the highest first. Writes
-crates/kexinit_run/data/payloads; with --check it only compares, and exits 1 where that file is stale.
+data/payloads of both crates; with --check it only compares, and exits 1 where a file is stale.
 """
 import pathlib
 import sys
 
 ROOT = pathlib.Path(__file__).resolve().parent.parent
-PACKED = ROOT / "crates/kexinit_run/data/payloads"
+PACKED = [ROOT / "crates" / crate / "data/payloads" for crate in ("kexinit_run", "views_run")]
 
 
 def captures():
@@ -30,15 +30,16 @@ def packed():
 
 def main():
     if sys.argv[1:] == ["--check"]:
-        if not PACKED.exists() or PACKED.read_bytes() != packed():
-            print(f"pack_captures: {PACKED.relative_to(ROOT)} is stale; run tests/pack_captures.py")
-            return 1
-        return 0
+        stale = [path for path in PACKED if not path.exists() or path.read_bytes() != packed()]
+        for path in stale:
+            print(f"pack_captures: {path.relative_to(ROOT)} is stale; run tests/pack_captures.py")
+        return 1 if stale else 0
     if sys.argv[1:]:
         print(__doc__)
         return 2
-    PACKED.parent.mkdir(exist_ok=True)
-    PACKED.write_bytes(packed())
+    for path in PACKED:
+        path.parent.mkdir(exist_ok=True)
+        path.write_bytes(packed())
     return 0
 
 

@@ -1,5 +1,6 @@
-// Runs the views over made payloads, a step beside the same step of the covered functions: names, an empty list, a bad name, a
-// refused payload, a list number outside 1 to 10. What it prints is held to the file `stdout`.
+// Runs the views, a step beside the same step of the covered functions: over made payloads with names, an empty list, a bad name, a
+// refusal, a list number outside 1 to 10; and over every list of the captured payloads. What it prints is held to the file `stdout`, and
+// tests/expect_views.py computes the captured part.
 use kexinit::Opened;
 use names::Cursor;
 use names::Next;
@@ -137,7 +138,7 @@ fn front_case(shown: &[u8], out: &[u8], n: usize) {
     }
 }
 
-fn main() {
+fn made() {
     let mut out = [0u8; 128];
     let w = kexinit::write_kexinit(
         &mut out,
@@ -166,4 +167,106 @@ fn main() {
     front_case(b"a bad name", &out, n);
     out[0] = 21;
     front_case(b"refused", &out, n);
+}
+
+// ---- captured payloads
+
+// How many names were yielded, and whether the view yielded them and the end as the reader does.
+struct Yields {
+    names: usize,
+    same: bool,
+}
+
+fn walked(payload: &[u8], start: Cursor) -> Yields {
+    let mut c = start;
+    let mut k = 0;
+    while k < 5000 {
+        let r = views::next_through(payload, c);
+        let n = names::next_name(payload, c);
+        if !same_next(r, n) {
+            return Yields {
+                names: k,
+                same: false,
+            };
+        }
+        if !r.found {
+            return Yields {
+                names: k,
+                same: true,
+            };
+        }
+        k += 1;
+        c = r.cursor;
+    }
+    Yields {
+        names: k,
+        same: false,
+    }
+}
+
+fn captured_list(payload: &[u8], list: usize) -> bool {
+    let r = views::open_through(payload, list);
+    let o = kexinit::open_list(payload, list);
+    let c = r.cursor;
+    let w = walked(payload, c);
+    space();
+    decimal(w.names);
+    if !same_opened(r, o) {
+        return false;
+    }
+    w.same
+}
+
+fn captured_payload(payload: &[u8]) {
+    text(b"captured:");
+    let mut list = 1;
+    let mut same = true;
+    while list < 11 {
+        if !captured_list(payload, list) {
+            same = false;
+        }
+        list += 1;
+    }
+    put_same(same);
+}
+
+fn string_of(data: &[u8], k: usize) -> &[u8] {
+    let w = wire::skip_strings(data, 0, k);
+    let f = wire::field_at(data, w.place);
+    wire::part_of(
+        data,
+        Part {
+            start: f.start,
+            len: f.len,
+        },
+    )
+}
+
+fn captured(data: &[u8]) {
+    let mut k = 0;
+    while k < 1000 {
+        let payload = string_of(data, k);
+        if payload.len() == 0 {
+            return;
+        }
+        captured_payload(payload);
+        k += 1;
+    }
+}
+
+fn captures() {
+    let fd = os::open_read(b"payloads");
+    if fd < 0 {
+        text(b"no captures\n");
+        return;
+    }
+    let mut space = io::large_buffer();
+    let n = io::read_full(fd, &mut space);
+    libc::close(fd);
+    captured(&space[..n]);
+}
+
+fn main() {
+    made();
+    captures();
 }

@@ -1,0 +1,58 @@
+-- `views_run::walked` is safe and ends. Assumes nothing.
+use borrow.Author.Needs.{needs}
+use Prim.Native.Nat.{_-_, _≤_}
+use Rattle.views_run.proofs.walked.Statement.{statement}
+use Rattle.views_run.proofs.walked.Tie as tie
+
+abbrev Inv-loop : tie.InvT-loop
+Inv-loop payload c₀ k₀ c k = k ≤ 5000
+
+abbrev μ-loop : tie.MeasureT-loop
+μ-loop payload c₀ k₀ c k = 5000 - k
+
+loop-holds : tie.Need-loop-holds Inv-loop μ-loop
+loop-holds c = search needs
+
+next-through-requires : tie.Need-next-through-requires Inv-loop μ-loop
+next-through-requires c κs = search needs
+
+next-name-requires : tie.Need-next-name-requires Inv-loop μ-loop
+next-name-requires c κs = search needs
+
+same-next-requires : tie.Need-same-next-requires Inv-loop μ-loop
+same-next-requires c κs = search needs
+
+returns : tie.Need-returns Inv-loop μ-loop
+returns c = search needs
+
+returns-2 : tie.Need-returns-2 Inv-loop μ-loop
+returns-2 c = search needs
+
+add-k : tie.Need-add-k Inv-loop μ-loop
+add-k c = search needs
+
+loop-less : tie.Need-loop-less Inv-loop μ-loop
+loop-less c = search needs
+
+loop-again : tie.Need-loop-again Inv-loop μ-loop
+loop-again c = search needs
+
+returns-3 : tie.Need-returns-3 Inv-loop μ-loop
+returns-3 c = search needs
+
+pub walked-spec : {M : Type 1} → statement M
+walked-spec =
+    tie.close
+    (tie.spec
+    Inv-loop
+    μ-loop
+    loop-holds
+    next-through-requires
+    next-name-requires
+    same-next-requires
+    returns
+    returns-2
+    add-k
+    loop-less
+    loop-again
+    returns-3)
