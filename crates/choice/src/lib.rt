@@ -13,6 +13,7 @@ ghost use Rattle.choice.specs.Choice.{payloadCause, refusal, chosen};
 
 // What a choice hands back: 0 with the method, the host key name's place in the client's payload, and whether each side's next
 // packet is to be ignored; or the number of a refusal and none of them.
+#[repr(C)]
 pub struct Choice {
     pub number: u8,
     pub method: u8,

@@ -25,6 +25,7 @@ pub struct Judged {
 
 // A payload opened for one list: its cookie, boolean and reserved number, and a cursor at the list's beginning. A refusal has
 // none of them, and its cursor yields only the end.
+#[repr(C)]
 pub struct Opened {
     pub number: u8,
     pub cookie: Part,

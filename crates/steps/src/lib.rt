@@ -463,8 +463,8 @@ pub fn verdict(
     }
 }
 
-// The place of string i of an INIT that the step would accept.
-fn init_part(e: Exchange, room: &[u8], payload: &[u8], i: usize) -> Part
+// The place of string i of an INIT that the step would accept; the empty part for every refusal.
+pub fn init_part(e: Exchange, room: &[u8], payload: &[u8], i: usize) -> Part
     ensures { λ r. ⌜ r ≡ stepPart e (now (room .entry)) (init (now (payload .entry))) (now (payload .entry)) i ⌝ }
 {
     let fed = judge::init_cause(e.method, payload);
@@ -475,8 +475,8 @@ fn init_part(e: Exchange, room: &[u8], payload: &[u8], i: usize) -> Part
     messages::field_part(payload, i)
 }
 
-// The place of string i of a REPLY that the step would accept.
-fn reply_part(e: Exchange, room: &[u8], payload: &[u8], i: usize) -> Part
+// The place of string i of a REPLY that the step would accept; the empty part for every refusal.
+pub fn reply_part(e: Exchange, room: &[u8], payload: &[u8], i: usize) -> Part
     ensures { λ r. ⌜ r ≡ stepPart e (now (room .entry)) (reply (now (payload .entry))) (now (payload .entry)) i ⌝ }
 {
     let fed = judge::reply_cause(e.method, payload);

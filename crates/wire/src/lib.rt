@@ -10,6 +10,7 @@ ghost use Rattle.wire.specs.Strings.{bytes32, numberAt, string, fieldAt,
 ghost use Rattle.wire.specs.Writers.{wrote, leaves};
 
 // The place of a part in an input, counted from the input's first byte. A refusal's parts are empty, at 0.
+#[repr(C)]
 pub struct Part {
     pub start: usize,
     pub len: usize,
@@ -29,6 +30,7 @@ pub struct Walk {
 }
 
 // The string at the front of an input: 0 with its body and what follows it, or 12.
+#[repr(C)]
 pub struct StringRead {
     pub number: u8,
     pub body: Part,
@@ -36,6 +38,7 @@ pub struct StringRead {
 }
 
 // What a writer answers: 0 and the bytes written, or the number of a refusal and 0.
+#[repr(C)]
 pub struct Written {
     pub number: u8,
     pub count: usize,

@@ -1,0 +1,13 @@
+-- `boundary::castulfrisa_reply_host_key` meets its contract. Assumes nothing.
+use borrow.Author.Needs.{needs}
+use Rattle.boundary.proofs.castulfrisa_reply_host_key.Statement.{statement}
+use Rattle.boundary.proofs.castulfrisa_reply_host_key.Tie as tie
+
+reply-part-requires : tie.Need-reply-part-requires
+reply-part-requires c κs = search needs
+
+returns : tie.Need-returns
+returns c = c .reply-part .ensures
+
+pub castulfrisa-reply-host-key-spec : {M : Type 1} → statement M
+castulfrisa-reply-host-key-spec = tie.close (tie.spec reply-part-requires returns)
