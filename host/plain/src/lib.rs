@@ -1,0 +1,22 @@
+//! Document 01 in plain Rust: a second implementation, to hold another one against.
+//!
+//! Everything works on lent slices: nothing is allocated, and nothing panics whatever is handed in. The files
+//! stand in the document's order.
+
+#![cfg_attr(not(test), no_std)]
+#![forbid(unsafe_code)]
+
+mod choice;
+mod exchange;
+mod kexinit;
+mod methods;
+mod wire;
+
+pub use choice::{choose, Choice};
+pub use exchange::{
+    init_c, own_c, read_init, read_reply, reply_parts, sign, start, take_secret, verdict, Answer, Classical, Exchange,
+    Kem, Stage, INIT_OUT, K_RECORD, REPLY_OUT, ROOM,
+};
+pub use kexinit::{next_name, open_list, write_kexinit, Cursor, Next, Opened};
+pub use methods::{method, method_number, Method};
+pub use wire::{read_mpint, read_string, write_mpint, write_string, MpintRead, Part, StringRead, Written};

@@ -1,0 +1,237 @@
+//! The bench's line protocol, spoken to the program itself.
+
+use std::io::Write;
+use std::process::{Command, Stdio};
+
+/// What the program prints for a script, what it says on standard error, and its exit status.
+fn play(script: &str) -> (String, String, i32) {
+    let mut program = Command::new(env!("CARGO_BIN_EXE_plain_bench"))
+        .stdin(Stdio::piped())
+        .stdout(Stdio::piped())
+        .stderr(Stdio::piped())
+        .spawn()
+        .unwrap();
+    // A program that met a bad line reads no further.
+    let _ = program.stdin.take().unwrap().write_all(script.as_bytes());
+    let done = program.wait_with_output().unwrap();
+    let text = |bytes| String::from_utf8(bytes).unwrap();
+    (text(done.stdout), text(done.stderr), done.status.code().unwrap())
+}
+
+fn answers(script: &str) -> Vec<String> {
+    let (out, err, status) = play(script);
+    assert_eq!((err.as_str(), status), ("", 0));
+    assert!(out.is_empty() || out.ends_with('\n'));
+    out.lines().map(str::to_string).collect()
+}
+
+/// The answers without the digests of K record and room.
+fn brief(script: &str) -> Vec<String> {
+    answers(script).iter().map(|line| line.split(" k=").next().unwrap().to_string()).collect()
+}
+
+/// The digest by its definition, in plain 128-bit arithmetic.
+fn digest(bytes: &[u8]) -> String {
+    let by = |factor: u128| bytes.iter().fold(0, |sum, &byte| (sum * factor + u128::from(byte) + 1) % 0x7fff_ffff);
+    format!("{:08x}{:08x}", by(257), by(65599))
+}
+
+#[test]
+fn the_first_group() {
+    let script =
+        "# comment\n\nrstr 000000026162ff\nrstr -\nwstr 6162 ee*7\nwstr 6162 -\nrmpint 0000000180\nrmpint 00000000\n\
+                  rmpint 0000000100\nwmpint ff80 00*5";
+    let wrote = digest(&[0, 0, 0, 2, 0x61, 0x62, 0xee]);
+    let mpint = digest(&[0, 0, 0, 1, 0x80]);
+    let expected = [
+        "0 4:6162 6:ff",
+        "12 0:- 0:-",
+        &format!("0 6 out=7:{wrote}"),
+        "5 0 out=0:0000000000000000",
+        "0 -1 4:80 5:-",
+        "0 0 4:- 4:-",
+        "22 0 0:- 0:-",
+        &format!("0 5 out=5:{mpint}"),
+    ];
+    assert_eq!(answers(script), expected);
+}
+
+#[test]
+fn kexinit_and_its_view() {
+    // The second list is "ab,c" and the third ",".
+    let payload = "14*17";
+    let lists = "000000000000000461622c63000000012c00000000000000000000000000000000000000000000000000000000";
+    let cookie = "14".repeat(17);
+    let payload_hex = format!("{cookie}{lists}0500000102");
+    let script = format!(
+        "next\nopen {payload} 1\nnext\nopen {payload_hex} 2\nnext\nnames {payload_hex} 1\nnext\nnext\nnext\n\
+         open {payload_hex} 3\nnext\nnext\nnames {payload_hex} 2\nnames {payload_hex} 3\nnames {payload_hex} 11\n\
+         choose {payload_hex} {payload_hex}\n"
+    );
+    let cookie = &cookie[2..];
+    let expected = [
+        "0 end",
+        "12 0:- 0 0",
+        "0 end",
+        &format!("0 1:{cookie} 1 258"),
+        "0 25:6162",
+        "0 end",
+        "0 28:63",
+        "0 end",
+        "0 end",
+        &format!("0 1:{cookie} 1 258"),
+        "19 0:-",
+        "19 0:-",
+        "0 25:6162 28:63 end",
+        "0 19",
+        "4 end",
+        "19 0 0:- 0 0",
+    ];
+    assert_eq!(answers(&script), expected);
+
+    let good = "wkex 01*16 - 61 - - - - - - - - 1 7 00*70\nwkex 01*16 - 61 - - - - - - - - 0 4294967295 00*62\n\
+                wkex 01*15 - 61 - - - - - - - - 0 0 -";
+    let lines = answers(good);
+    assert!(lines[0].starts_with("0 63 out=70:"));
+    assert!(lines[1].starts_with("5 0 out=62:"));
+    assert_eq!(lines[2], "4 0 out=0:0000000000000000");
+}
+
+#[test]
+fn an_exchange_as_client_and_as_server() {
+    let script = "room 00*14156\nstart 1 1 61 62 14 1415\nownc 07*32 00*1670\n\
+                  reply 1f000000016b0000002009090909090909090909090909090909090909090909090909090909090909090000000173\n\
+                  secret G32 01*32 a - - -\nverdict 1 1 ff*71\nverdict 1 1 ff*71\n\
+                  start 2 1 61 62 14 1415\ninit 1e000000200707070707070707070707070707070707070707070707070707070707070707\n\
+                  secret G32 01*32 a - 6b 09*32\nsign 73 00*5774 ff*72\n";
+    let s = "09".repeat(32);
+    let c = "07".repeat(32);
+    let lines = answers(script);
+    let starts = [
+        "0 | ex 0.0.failed.0.0,0,0,0,0,0,0 k=".to_string(),
+        "0 | ex 1.1.started.0.1,1,1,2,0,0,0 k=".to_string(),
+        "0 37 out=1670:".to_string(),
+        format!("0 5:6b 10:{s} 46:73 | ex 1.1.reply.0.1,1,1,2,1,32,32 k="),
+        "0 134 | ex 1.1.secret.0.1,1,1,2,1,32,32 k=".to_string(),
+        "0 36 out=71:".to_string(),
+        "1 0 out=71:".to_string(),
+        "0 | ex 2.1.started.0.1,1,1,2,0,0,0 k=".to_string(),
+        format!("0 5:{c} | ex 2.1.init.0.1,1,1,2,0,32,0 k="),
+        "0 134 | ex 2.1.secret.0.1,1,1,2,1,32,32 k=".to_string(),
+        "0 47 36 out=5774:".to_string(),
+    ];
+    assert_eq!(lines.len(), starts.len());
+    for (line, start) in lines.iter().zip(&starts) {
+        assert!(line.starts_with(start), "{line}");
+    }
+
+    let string = |body: &[u8]| [&(body.len() as u32).to_be_bytes(), body].concat();
+    let fields: [&[u8]; 8] = [b"a", b"b", &[20], &[20, 21], b"k", &[7; 32], &[9; 32], &[1; 32]];
+    let mut room: Vec<u8> = fields.iter().flat_map(|field| string(field)).collect();
+    room.resize(14_156, 0);
+    let mut k = string(&[1; 32]);
+    k.resize(71, 0);
+    let tail = format!(" k={} room={}", digest(&k), digest(&room));
+    let k_out = format!("out=71:{}", digest(&k));
+    assert!(lines[4].ends_with(&tail) && lines[9].ends_with(&tail));
+    assert_eq!(lines[5], format!("0 36 {k_out} | ex 1.1.complete.0.1,1,1,2,1,32,32{tail}"));
+    k.push(0xff);
+    assert!(lines[10].contains(&format!("out=72:{}", digest(&k))));
+}
+
+#[test]
+fn forged_records() {
+    let blank = "ex 0.0.failed.0.0,0,0,0,0,0,0";
+    assert_eq!(
+        brief("blank\nset fail 9\nblank"),
+        [format!("0 | {blank}"), "0 | ex 0.0.failed.9.0,0,0,0,0,0,0".to_string(), format!("0 | {blank}"),]
+    );
+    let begin = "room 00*14156\nstart 2 1 61 62 14 14\n";
+    let init = "init 1e000000200707070707070707070707070707070707070707070707070707070707070707\n";
+    let part = format!("5:{}", "07".repeat(32));
+    let started = "ex 2.1.started.0.1,1,1,1,0,0,0";
+    // A fail number waits for a stage that is set to failed; until then the exchange is as it was.
+    let lines = brief(&format!("{begin}set fail 7\nset stage failed\n{init}set stage started\n{init}"));
+    assert_eq!(
+        lines[2..],
+        [
+            format!("0 | {started}"),
+            "0 | ex 2.1.failed.7.1,1,1,1,0,0,0".to_string(),
+            "1 0:- | ex 2.1.failed.7.1,1,1,1,0,0,0".to_string(),
+            format!("0 | {started}"),
+            format!("0 {part} | ex 2.1.init.0.1,1,1,1,0,32,0"),
+        ]
+    );
+    let lines = brief(&format!(
+        "{begin}set l3 18446744073709551615\n{init}set l3 1\nset role 3\n{init}set role 2\n\
+                                set k70 255\npoke 14155 ff\ninit 1e\n"
+    ));
+    assert_eq!(
+        lines[2..],
+        [
+            "0 | ex 2.1.started.0.1,1,1,18446744073709551615,0,0,0".to_string(),
+            "1 0:- | ex 2.1.started.0.1,1,1,18446744073709551615,0,0,0".to_string(),
+            format!("0 | {started}"),
+            "0 | ex 3.1.started.0.1,1,1,1,0,0,0".to_string(),
+            "1 0:- | ex 3.1.started.0.1,1,1,1,0,0,0".to_string(),
+            format!("0 | {started}"),
+            format!("0 | {started}"),
+            format!("0 | {started}"),
+            "12 0:- | ex 2.1.failed.12.0,0,0,0,0,0,0".to_string(),
+        ]
+    );
+}
+
+#[test]
+fn bad_lines() {
+    let bad = [
+        "what",
+        " ",
+        "rstr",
+        "rstr 00 00",
+        "rstr 0",
+        "rstr AB",
+        "rstr 0g",
+        "rstr ",
+        "rstr 00*",
+        "rstr 00*x",
+        "rstr -*1",
+        "rstr  00",
+        "open - -1",
+        "open - +1",
+        "open - 18446744073709551616",
+        "wkex 00 - - - - - - - - - 0 0 -",
+        "wkex 00 - - - - - - - - - - 0 4294967296 -",
+        "room 00*99999999999999999999",
+        "poke 0 00",
+        "poke 1 -",
+        "poke 18446744073709551615 0000",
+        "set",
+        "set role 256",
+        "set role -",
+        "set stage begun",
+        "set stage 1",
+        "set l7 0",
+        "set k71 0",
+        "set k0 256",
+        "set what 0",
+        "set fail 256",
+        "blank 1",
+        "start 256 1 - - - -",
+        "start 1 1 - - -",
+        "secret X - a - - -",
+        "secret G - a - - -",
+        "secret F - x - - -",
+        "verdict 2 0 -",
+        "verdict 0 yes -",
+        "next 1",
+        "rstr \u{e9}",
+    ];
+    for line in bad {
+        let (out, err, status) = play(&format!("# first\nrstr 00000000\n{line}\nrstr -\n"));
+        assert_eq!((out.as_str(), status), ("0 4:- 4:-\n", 1), "{line}");
+        assert!(err.starts_with("plain_bench: line 3: ") && err.lines().count() == 1, "{line}: {err}");
+    }
+    assert_eq!(answers("poke 0 -").len(), 1);
+    assert!(answers("").is_empty());
+}
