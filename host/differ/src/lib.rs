@@ -1,0 +1,8 @@
+//! The compiled core and the plain implementation of document 01 side by side: random calls, and what both answer and leave.
+pub mod calls;
+pub mod codecs;
+pub mod fence;
+pub mod lists;
+pub mod random;
+pub mod sha2;
+pub mod tally;

@@ -1,0 +1,85 @@
+//! differ [--lists N] [--rounds N] [--seed N] [--list I | --round I] [--progress]
+//! Random lists of calls and rounds of codecs, KEXINIT and choice on the compiled core and on the plain implementation. The first
+//! difference ends the run with status 1; so does a number that an entry never gave, or that is not its own.
+use differ::{codecs, lists, tally::Tally};
+use std::process::ExitCode;
+
+struct Asked {
+    lists: u64,
+    rounds: u64,
+    seed: u64,
+    only_list: Option<u64>,
+    only_round: Option<u64>,
+    progress: bool,
+}
+
+fn asked() -> Result<Asked, String> {
+    let mut a = Asked { lists: 1_000_000, rounds: 300_000, seed: 20_261_115, only_list: None, only_round: None, progress: false };
+    let mut words = std::env::args().skip(1);
+    while let Some(word) = words.next() {
+        if word == "--progress" {
+            a.progress = true;
+            continue;
+        }
+        let value = words.next().ok_or(format!("{}: a number is missing", word))?;
+        let n = value.parse().map_err(|_| format!("{}: '{}' is no number", word, value))?;
+        match &word[..] {
+            "--lists" => a.lists = n,
+            "--rounds" => a.rounds = n,
+            "--seed" => a.seed = n,
+            "--list" => a.only_list = Some(n),
+            "--round" => a.only_round = Some(n),
+            _ => return Err(format!("{}: not known", word)),
+        }
+    }
+    Ok(a)
+}
+
+fn run(a: &Asked) -> Result<bool, String> {
+    let mut tally = Tally::default();
+    let mut seen = lists::Seen::default();
+    let mut fences = lists::Fences::default();
+    if let Some(i) = a.only_list {
+        return lists::list(a.seed, i, &mut fences, &mut tally, &mut seen).map(|()| true);
+    }
+    let mut codec_fences = codecs::Fences::default();
+    if let Some(i) = a.only_round {
+        return codecs::round(a.seed, i, &mut codec_fences, &mut tally).map(|()| true);
+    }
+    let tell = |what: &str, i: u64, of: u64| {
+        if a.progress && (i + 1) % 100_000 == 0 {
+            println!("{} of {} {}", i + 1, of, what);
+        }
+    };
+    codecs::rows()?;
+    codecs::long(&mut tally)?;
+    for i in 0..a.rounds {
+        codecs::round(a.seed, i, &mut codec_fences, &mut tally)?;
+        tell("rounds", i, a.rounds);
+    }
+    for i in 0..a.lists {
+        lists::list(a.seed, i, &mut fences, &mut tally, &mut seen)?;
+        tell("lists", i, a.lists);
+    }
+    println!("seed {}: {} rounds of codecs, KEXINIT and choice, {} lists of calls, no difference", a.seed, a.rounds, a.lists);
+    println!(
+        "lists: {} calls, {} exchanges complete, {} peer faults, {} numbers of a record forged, {} calls left a record that no exchange has, {} writes into a room",
+        seen.calls, seen.complete, seen.faults, seen.forged, seen.strange, seen.pokes
+    );
+    println!("share of each number among an entry's answers:");
+    Ok(tally.print(|_| true))
+}
+
+fn main() -> ExitCode {
+    match asked().and_then(|a| run(&a)) {
+        Ok(true) => ExitCode::SUCCESS,
+        Ok(false) => {
+            eprintln!("differ: an entry gave a number that is not its own, or never gave one that is");
+            ExitCode::FAILURE
+        }
+        Err(what) => {
+            eprintln!("differ: {}", what);
+            ExitCode::FAILURE
+        }
+    }
+}
