@@ -1,14 +1,22 @@
-# Two commands for a newcomer: `make demo` runs what there is, `make test` is the gate.
-.PHONY: demo test vectors
+# Two commands for a newcomer: `make demo` runs what there is, `make test` is the gate. `make lib` leaves the static library in build/.
+.PHONY: demo test vectors lib bench host host-test soak
+
+WARN = -Wall -Wextra -Werror -pedantic -O2 -Iinclude
+CARGO = cargo --offline --quiet
+export CARGO_TARGET_DIR := $(CURDIR)/build/cargo
+RUST = build/cargo/release
+LIB = build/libcastulfrisa.a
+SEED = 20261115
 
 demo:
 	@rt check exchange_run > /dev/null || { echo "demo: the check failed; run 'rt check exchange_run'"; exit 1; }
 	@echo "Proved, built and run: every captured exchange through its steps (number, counts, what was compared)."
 	@cd crates/exchange_run/data && ../../../target/bin/exchange_run
 
-# The layout and the vectors first, then the proofs from nothing, the must-fail edits and the programs.
+# The layout and the vectors first, then the library and its hosts, then the proofs from nothing, the must-fail edits and the programs.
 test: vectors
 	rt fmt --check
+	$(MAKE) --no-print-directory host-test
 	rt ci
 
 # What the programs read and what they must print, held to the captures and to an account of the documents of its own.
@@ -19,3 +27,43 @@ vectors:
 	python3 tests/pack_exchanges.py --check
 	python3 tests/expect_exchange.py --check
 	python3 tests/expect_in_place.py --check
+
+# The static library: proved first (some three minutes from nothing), and left alone where it did not change.
+lib:
+	@mkdir -p build
+	@rt staticlib boundary > build/staticlib.log 2>&1 || { tail -40 build/staticlib.log; echo "lib: not proved, see build/staticlib.log"; exit 1; }
+	@cmp -s target/staticlib/libboundary.a $(LIB) || cp target/staticlib/libboundary.a $(LIB)
+
+bench: lib
+	gcc -std=c11 $(WARN) host/bench.c $(LIB) -o build/bench
+
+# The C programs, plain and under the sanitizers, and the Rust side.
+SAN = -fsanitize=address,undefined -fno-sanitize-recover=all -g
+host: bench
+	@mkdir -p build/host
+	gcc -std=c11 $(WARN) tests/header_test.c $(LIB) -o build/host/header_c
+	g++ -std=c++17 $(WARN) -x c++ tests/header_test.c -x none $(LIB) -o build/host/header_cc
+	gcc -std=c99 $(WARN) host/example.c $(LIB) -o build/host/example
+	gcc -std=c11 $(WARN) $(SAN) tests/header_test.c $(LIB) -o build/host/header_san
+	gcc -std=c99 $(WARN) $(SAN) host/example.c $(LIB) -o build/host/example_san
+	gcc -std=c11 $(WARN) $(SAN) host/bench.c $(LIB) -o build/host/bench_san
+	cd host && $(CARGO) build --release && $(CARGO) build --release --examples
+
+# The compiled library: its header, its hosts, and every answer against the plain implementation of document 01.
+host-test: host
+	build/host/header_c && build/host/header_cc && build/host/header_san
+	build/host/example && build/host/example_san
+	cd host && $(CARGO) test
+	$(RUST)/examples/exchange
+	$(RUST)/captures tests/captures
+	$(RUST)/differ --seed $(SEED)
+	python3 tests/bench_test.py build/bench
+	$(RUST)/script $(SEED) 3000 2000 > build/host/script
+	$(RUST)/plain_bench < build/host/script > build/host/answers
+	build/bench < build/host/script > build/host/ours && cmp build/host/ours build/host/answers
+	build/host/bench_san < build/host/script > build/host/ours && cmp build/host/ours build/host/answers
+	@echo "bench: $$(wc -l < build/host/answers) answers as the plain implementation gives them, also under the sanitizers"
+
+# A longer run, with another seed each time.
+soak: host
+	$(RUST)/differ --seed $$(date +%s) --lists 20000000 --rounds 4000000 --progress

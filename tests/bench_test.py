@@ -1,0 +1,161 @@
+#!/usr/bin/env python3
+"""The bench as a program: document 01's examples through it, and what it does with lines that are none.
+
+usage: bench_test.py BENCH
+"""
+import subprocess
+import sys
+
+
+def run(bench, script, *words):
+    p = subprocess.run([bench, *words], input=script.encode(), capture_output=True, timeout=60)
+    return p.returncode, p.stdout.decode().splitlines(), p.stderr.decode().splitlines()
+
+
+def digest(data):
+    h = g = 0
+    for x in data:
+        h = (h * 257 + x + 1) % (2 ** 31 - 1)
+        g = (g * 65599 + x + 1) % (2 ** 31 - 1)
+    return f'{h:08x}{g:08x}'
+
+
+def out(data):
+    return f'out={len(data)}:{digest(data)}'
+
+
+def string(b):
+    return len(b).to_bytes(4, 'big') + b
+
+
+def h(b):
+    return b.hex() or '-'
+
+
+# ---- document 01's worked and run-only examples: line, and what its answer begins with
+
+def server(method, c, x, s=None):
+    """Lines that bring a server to its secret."""
+    s = c if s is None else s
+    return [
+        'room 00*14156',
+        f'start 2 {method} 61 62 14 14',
+        f'init {h(bytes([30]) + string(c))}',
+        f'secret G{len(x)} {h(x)} a - {h(b"k")} {h(s)}',
+    ]
+
+
+def secrets():
+    """P1 to P7: X of 32 bytes in method 4, and K as the sign step writes it."""
+    point = b'\4' + bytes(64)
+    for x, k in [
+        (bytes(31) + b'\1', '0000000101'),
+        (bytes(32), '00000000'),
+        (b'\x7f' + bytes(31), '00000020' + '7f' + '00' * 31),
+        (b'\x80' + bytes(31), '00000021' + '0080' + '00' * 31),
+        (b'\0\x7f' + bytes(30), '0000001f' + '7f' + '00' * 30),
+        (b'\0\x80' + bytes(30), '00000020' + '0080' + '00' * 30),
+    ]:
+        k = bytes.fromhex(k)
+        lines = server(4, point, x) + ['sign 73 00*5774 00*71']
+        reply = bytes([31]) + string(b'k') + string(point) + string(b's')
+        hashed = 2 * len(string(b'a')) + 2 * len(string(b'\x14')) + len(string(b'k')) + 2 * len(string(point)) + len(k)
+        yield lines, ['0', '0', '0 5:', f'0 {hashed} |',
+                      f'0 {len(reply)} {len(k)} {out(reply + bytes(5774 - len(reply)))} {out(k + bytes(71 - len(k)))}']
+    # P3: an all-zero X where the check is on
+    yield server(1, bytes(32), bytes(32)), ['0', '0', '0', '16 0 | ex 2.1.failed.16.0,0,0,0,0,0,0']
+    c9, s9 = bytes(1216), bytes(1120)
+    lines = server(9, c9, bytes(32), s=s9)
+    lines[3] = f'secret G32 {h(bytes(32))} d {h(bytes(32))} {h(b"k")} {h(s9)}'
+    yield lines, ['0', '0', '0', '16 0 | ex 2.9.failed.16.0,0,0,0,0,0,0']
+
+
+def codecs():
+    for line, want in [
+        ('wmpint 80 00*10', '0 5 ' + out(bytes.fromhex('0000000180') + bytes(5))),                   # P8
+        ('wmpint ff7f 00*10', '0 6 ' + out(bytes.fromhex('00000002ff7f') + bytes(4))),                # P9
+        ('rmpint 00000002007f', '22 0 0:- 0:-'),                                                      # P10
+        ('wstr 6162 00*10', '0 6 ' + out(bytes.fromhex('000000026162') + bytes(4))),                  # P11
+        # RFC 4251, section 5
+        ('rmpint 00000000', '0 0 4:- 4:-'),
+        ('rmpint 0000000809a378f9b2e332a7', '0 1 4:09a378f9b2e332a7 12:-'),
+        ('rmpint 000000020080', '0 1 4:0080 6:-'),
+        ('rmpint 00000002edcc', '0 -1 4:edcc 6:-'),
+        ('rmpint 00000005ff21524111', '0 -1 4:ff21524111 9:-'),
+        # a length that wraps where 4 is added in 32 bits
+        ('rstr fffffffd6162', '12 0:- 0:-'),
+        ('rstr -', '12 0:- 0:-'),
+        # an output a byte too short stays
+        ('wstr 6162 07*5', '5 0 ' + out(b'\7' * 5)),
+        # KEXINIT with ten empty lists
+        ('open 14' + '00' * 61 + ' 1', '0 1:' + '00' * 16 + ' 0 0'),
+        ('open 14' + '00' * 60 + ' 1', '12 0:- 0 0'),
+        ('open 14' + '00' * 62 + ' 1', '13 0:- 0 0'),
+        ('open 14' + '00' * 61 + ' 11', '4 0:- 0 0'),
+        ('next', '0 end'),
+        ('wkex ' + '00' * 16 + ' - - - - - - - - - - 0 0 00*62', '0 62 ' + out(b'\x14' + bytes(61))),
+        ('wkex ' + '00' * 16 + ' - - - - - - - - - - 1 7 00*61', '5 0 ' + out(bytes(61))),
+        ('wkex ' + '00' * 15 + ' - - - - - - - - - - 1 7 00*62', '4 0 ' + out(bytes(62))),
+        ('wkex ' + '00' * 16 + ' 612c - - - - - - - - - 1 7 00*99', '4 0 ' + out(bytes(99))),
+    ]:
+        yield [line], [want]
+
+
+def exchanges():
+    room = 'room 00*14156'
+    yield ['room 00*14155', 'start 1 1 61 62 14 14'], ['0', '3 | ex 0.0.failed.3.']
+    yield [room, 'start 1 1 61*253 62 14 14'], ['0', '0 | ex 1.1.started.0.253,1,1,1,0,0,0']
+    yield [room, 'start 1 1 61*254 62 14 14'], ['0', '4 | ex 0.0.failed.4.']
+    yield [room, 'start 3 1 61 62 14 14'], ['0', '2 | ex 0.0.failed.2.']
+    for n in (31, 33):
+        payload = h(bytes([30]) + string(bytes(n)))
+        yield [room, 'start 2 1 61 62 14 14', f'init {payload}', f'init {payload}'], [
+            '0', '0', '14 0:- | ex 2.1.failed.14.0,0,0,0,0,0,0 k=' + digest(bytes(71)) + ' room=' + digest(bytes(14156)), '1 0:-']
+    # P12: REPLY cut in its third length
+    cut = h(bytes([31]) + string(b'k') + string(bytes(32)) + bytes(3))
+    yield [room, 'start 1 1 61 62 14 14', f'ownc {"00" * 32} 00*1670', f'reply {cut}'], ['0', '0', '0 37', '12 0:- 0:- 0:-']
+    # a record that was written to
+    yield [room, 'start 2 1 61 62 14 14', 'set l2 18446744073709551615', 'init 1e'], ['0', '0', '0', '1 0:- | ex 2.1.started.']
+    yield ['blank', 'set fail 9'], ['0 | ex 0.0.failed.0.', '0 | ex 0.0.failed.9.']
+
+
+BAD = [
+    'what', 'rstr', 'rstr 0', 'rstr 0g', 'rstr AB', 'rstr  00', 'rstr 00 ', ' rstr 00', 'rstr 00 00', 'rstr -*1', 'rstr *4',
+    'rstr 00*x', 'rstr 00*-1', 'wstr 00', 'open 14 x', 'open 14 18446744073709551616', 'next 1', 'wkex 00 - - 0 0 -',
+    'set what 1', 'set role 256', 'set l7 1', 'set k71 1', 'set stage ended', 'set fail', 'poke 0 00', 'start 256 1 - - - -',
+    'secret X - a - - -', 'secret G - a - - -', 'secret F - x - - -', 'verdict 2 1 -', 'verdict 1 1', 'rstr 00\r', 'rstr 00\0',
+]
+
+
+def main():
+    bench = sys.argv[1]
+    failed = []
+
+    def held(what, have, want):
+        if have != want:
+            failed.append(f'{what}: {have!r}, not {want!r}')
+
+    count = 0
+    for lines, wants in [*secrets(), *codecs(), *exchanges()]:
+        status, answers, errors = run(bench, '\n'.join(lines) + '\n')
+        held(lines, (status, len(answers), errors), (0, len(wants), []))
+        for line, answer, want in zip(lines, answers, wants):
+            count += 1
+            if not answer.startswith(want):
+                failed.append(f'{line[:80]}: {answer[:120]}, not {want[:120]}')
+    for line in BAD:
+        status, answers, errors = run(bench, f'# a comment\n\nrstr 00000000\n{line}\nrstr 00000000\n')
+        held(repr(line), (status, answers, len(errors)), (1, ['0 4:- 4:-'], 1))
+        if not ''.join(errors).startswith('bench: line 4: '):
+            failed.append(f'{line!r}: the error is {errors}')
+    held('--help', run(bench, '', '--help')[0::2], (0, []))
+    held('an argument', run(bench, '', 'x')[0:2], (2, []))
+    held('no newline at the end', run(bench, 'rstr 00000000')[1], ['0 4:- 4:-'])
+    for line in failed:
+        print('bench:', line, file=sys.stderr)
+    print(f'bench: {count} answers and {len(BAD)} bad lines as they must be' if not failed else f'bench: {len(failed)} wrong')
+    return 1 if failed else 0
+
+
+if __name__ == '__main__':
+    sys.exit(main())
