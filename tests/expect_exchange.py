@@ -63,7 +63,6 @@ class Record:
         return self.k.ljust(71, b"\0")
 
 
-
 def version_ok(v):
     return 1 <= len(v) <= 253 and not set(v) & {0, 10, 13}
 

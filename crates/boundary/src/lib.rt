@@ -335,7 +335,7 @@ fn init_part(r: Record, room: &[u8], payload: &[u8], i: usize) -> Part
     let t = records::open_record(r);
     if t.fits {
         let e = t.exchange;
-        return steps::init_part(e, room, payload, i);
+        return parts::init_part(e, room, payload, i);
     }
     Part { start: 0, len: 0 }
 }
@@ -347,7 +347,7 @@ fn reply_part(r: Record, room: &[u8], payload: &[u8], i: usize) -> Part
     let t = records::open_record(r);
     if t.fits {
         let e = t.exchange;
-        return steps::reply_part(e, room, payload, i);
+        return parts::reply_part(e, room, payload, i);
     }
     Part { start: 0, len: 0 }
 }

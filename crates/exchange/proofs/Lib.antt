@@ -1,6 +1,7 @@
 pub mod CauseFacts
 pub mod DueLaws
 pub mod HashLaws
+pub mod KindLaws
 pub mod StepLaws
 pub mod Simulation
 pub mod Completes

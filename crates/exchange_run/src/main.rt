@@ -295,7 +295,7 @@ fn own_c_captured(e: Exchange, rec: &[u8], room: &mut [u8]) -> Exchange {
 
 fn init_part(e: Exchange, rec: &[u8], room: &[u8]) {
     text(b"  C of INIT:");
-    let c = steps::init_c(e, room, field(rec, INIT));
+    let c = parts::init_c(e, room, field(rec, INIT));
     item(c.len());
     fact(b"C", wire::equal(c, field(rec, C)));
     end();
@@ -321,9 +321,9 @@ fn signature_of(rec: &[u8]) -> &[u8] {
 
 fn reply_parts(e: Exchange, rec: &[u8], room: &[u8]) {
     text(b"  parts of REPLY:");
-    let ks = steps::reply_host_key(e, room, field(rec, REPLY));
-    let s = steps::reply_s(e, room, field(rec, REPLY));
-    let signature = steps::reply_signature(e, room, field(rec, REPLY));
+    let ks = parts::reply_host_key(e, room, field(rec, REPLY));
+    let s = parts::reply_s(e, room, field(rec, REPLY));
+    let signature = parts::reply_signature(e, room, field(rec, REPLY));
     item(ks.len());
     item(s.len());
     item(signature.len());

@@ -1,5 +1,4 @@
--- Laws for the leaves of the steps: what a refusal leaves, the start, the messages as they are laid, and the parts of an accepted
--- message. Assumes nothing.
+-- Laws for the leaves of the steps: what a refusal leaves, the start, and the messages as they are laid. Assumes nothing.
 use Prim.Native.Nat.{ℕ, _+_, _≤_, _<_}
 use mathlib.Core.Path.{_≡_, refl, sym, ap, _∙_}
 use mathlib.Core.List.{List, [], _∷_, _++_, append-assoc, append-nil}
@@ -28,33 +27,7 @@ use Rattle.exchange.specs.declared.Stage.the-variants.{Started, Failed}
 use Rattle.exchange.specs.declared.Exchange.{Exchange}
 use Rattle.exchange.specs.declared.Step.{Step}
 use Rattle.exchange.proofs.CauseFacts.{start-known}
-use Rattle.judge.proofs.JudgeLaws.{field-within}
-
--- ---- kinds of number
-
--- 0
-pub kind-accepted : (n : ℕ) → n ≡ 0 → kind n ≡ accepted
-unfolding kind
-kind-accepted n h = rw (eq-eqb n 0 h)
-
--- 1 to 5
-pub kind-refused : (n : ℕ) → 0 < n → n ≤ 5 → kind n ≡ refused
-unfolding kind
-kind-refused n h k = let z : n ≡ 0 → ⊥ = λ e. omega arith in rw (ne-eqb n 0 z, le-leb n 5 k)
-
--- above 5
-pub kind-fault : (n : ℕ) → 5 < n → kind n ≡ fault
-unfolding kind
-kind-fault n h = let z : n ≡ 0 → ⊥ = λ e. omega arith in rw (ne-eqb n 0 z, lt-leb n 5 h)
-
--- a number above 0 is of one of the two kinds that hand nothing back
-by-refusal : {A : Type 0} (n : ℕ) (a r : A) → (n ≡ 0 → ⊥) → byKind (kind n) a r r ≡ r
-unfolding kind
-by-refusal n a r h = rw (ne-eqb n 0 h) (by-test (leb n 5))
-  where
-    by-test : (t : Bool) → byKind (cond t refused fault) a r r ≡ r
-    by-test true = refl
-    by-test false = refl
+use Rattle.exchange.proofs.KindLaws.{kind-accepted, kind-refused, kind-fault}
 
 -- ---- refusals
 
@@ -220,37 +193,3 @@ module _ (role m : ℕ) (vc vs ic is room : List ℕ) (n : ℕ) (e : n ≡ start
     start-accepted r f =
         let z = eq-eqb (startCause role m vc vs ic is (length room)) 0 (sym e ∙ h) in
         (rw z, rw z f)
-
--- ---- parts of INIT and REPLY
-
-module _ (e : Exchange) (room p : List ℕ) (n fed : ℕ) where
-  -- the number that the code judges is the call's
-  pub init-number : fed ≡ initCause (e .method) p → n ≡ numbered 2 e (length room) fed → n ≡ number e room (init p)
-  unfolding number fedCause
-  init-number f g = g ∙ ap (numbered 2 e (length room)) f
-
-  -- likewise
-  pub reply-number : fed ≡ replyCause (e .method) p → n ≡ numbered 3 e (length room) fed → n ≡ number e room (reply p)
-  unfolding number fedCause
-  reply-number f g = g ∙ ap (numbered 3 e (length room)) f
-
-module _ (e : Exchange) (room : List ℕ) (q : Call) (p : List ℕ) (i n : ℕ) (f : n ≡ number e room q) where
-  -- nothing of a message that is refused
-  pub part-refused : (n ≡ 0 → ⊥) → nothing ≡ stepPart e room q p i
-  unfolding stepPart
-  part-refused h = sym (by-refusal (number e room q) (fieldPart p i) nothing (λ z. h (f ∙ z)))
-
-  -- string i of one that is accepted
-  pub part-accepted : n ≡ 0 → (r : Part) → r ≡ fieldPart p i → r ≡ stepPart e room q p i
-  unfolding stepPart
-  part-accepted h r g = g ∙ ap (λ (t : Kind). byKind t (fieldPart p i) nothing nothing) (sym (kind-accepted (number e room q) (sym f ∙ h)))
-
--- accepted or not, the part lies within the payload
-pub part-within : (e : Exchange) (room : List ℕ) (q : Call) (p : List ℕ) (i : ℕ) → stepPart e room q p i .start + stepPart e room q p i .len ≤ length p
-unfolding stepPart
-part-within e room q p i = by-kind (kind (number e room q))
-  where
-    by-kind : (t : Kind) → byKind t (fieldPart p i) nothing nothing .start + byKind t (fieldPart p i) nothing nothing .len ≤ length p
-    by-kind accepted = field-within p i
-    by-kind refused = omega arith
-    by-kind fault = omega arith

@@ -11,14 +11,12 @@ ghost use mathlib.Core.Path.{_≡_};
 ghost use mathlib.Core.List.{_++_};
 ghost use Prim.Native.Nat.{_+_, _≤_, _<_};
 ghost use lib.ListN.{length};
-ghost use denote.Ref.{ptr};
 ghost use Rattle.wire.specs.Bytes.{onto};
-ghost use Rattle.wire.specs.Parts.{bytesAt, placeAt};
 ghost use Rattle.messages.specs.Messages.{initBytes, replyBytes};
 ghost use Rattle.transcript.specs.Fields.{field, fieldLength};
 ghost use Rattle.exchange.specs.Record.{ended};
 ghost use Rattle.exchange.specs.declared.Stage.the-variants.{Complete};
-ghost use Rattle.exchange.specs.Steps.{at, HeadFits, ownC, init, reply, secret as secretStep, sign as signStep, verdict as verdictStep, number, headEnd, fieldsEnd, replyOf, answered, roomAfter, outputAfter, refusedStep, refusedRoom, stepPart, started, startedRoom, Small};
+ghost use Rattle.exchange.specs.Steps.{at, HeadFits, ownC, init, reply, secret as secretStep, sign as signStep, verdict as verdictStep, number, headEnd, fieldsEnd, replyOf, answered, roomAfter, outputAfter, refusedStep, refusedRoom, started, startedRoom, Small};
 
 // An exchange that a number ended: no lengths, and no K.
 fn ended_with(n: u8, role: u8, method: u8) -> Exchange
@@ -461,69 +459,4 @@ pub fn verdict(
         second: 0,
         exchange: next,
     }
-}
-
-// The place of string i of an INIT that the step would accept; the empty part for every refusal.
-pub fn init_part(e: Exchange, room: &[u8], payload: &[u8], i: usize) -> Part
-    ensures { λ r. ⌜ r ≡ stepPart e (now (room .entry)) (init (now (payload .entry))) (now (payload .entry)) i ⌝ }
-{
-    let fed = judge::init_cause(e.method, payload);
-    let n = judge::step_number(2, e, room.len(), fed);
-    if n != 0 {
-        return Part { start: 0, len: 0 };
-    }
-    messages::field_part(payload, i)
-}
-
-// The place of string i of a REPLY that the step would accept; the empty part for every refusal.
-pub fn reply_part(e: Exchange, room: &[u8], payload: &[u8], i: usize) -> Part
-    ensures { λ r. ⌜ r ≡ stepPart e (now (room .entry)) (reply (now (payload .entry))) (now (payload .entry)) i ⌝ }
-{
-    let fed = judge::reply_cause(e.method, payload);
-    let n = judge::step_number(3, e, room.len(), fed);
-    if n != 0 {
-        return Part { start: 0, len: 0 };
-    }
-    messages::field_part(payload, i)
-}
-
-// C of an INIT that the step would accept on this exchange and room, as a part of the payload; empty for every refusal. No step: nothing
-// changes.
-pub fn init_c<'a>(e: Exchange, room: &[u8], payload: &'a [u8]) -> &'a [u8]
-    ensures { λ r.
-        let p = stepPart e (now (room .entry)) (init (now (payload .entry))) (now (payload .entry)) 0 in
-        ⌜ (now r ≡ bytesAt (now (payload .entry)) p) × (ptr r ≡ placeAt (ptr (payload .entry)) p) ⌝ }
-{
-    let p = init_part(e, room, payload, 0);
-    wire::part_of(payload, p)
-}
-
-// K_S of a REPLY that the step would accept, likewise.
-pub fn reply_host_key<'a>(e: Exchange, room: &[u8], payload: &'a [u8]) -> &'a [u8]
-    ensures { λ r.
-        let p = stepPart e (now (room .entry)) (reply (now (payload .entry))) (now (payload .entry)) 0 in
-        ⌜ (now r ≡ bytesAt (now (payload .entry)) p) × (ptr r ≡ placeAt (ptr (payload .entry)) p) ⌝ }
-{
-    let p = reply_part(e, room, payload, 0);
-    wire::part_of(payload, p)
-}
-
-// S of a REPLY that the step would accept, likewise.
-pub fn reply_s<'a>(e: Exchange, room: &[u8], payload: &'a [u8]) -> &'a [u8]
-    ensures { λ r.
-        let p = stepPart e (now (room .entry)) (reply (now (payload .entry))) (now (payload .entry)) 1 in
-        ⌜ (now r ≡ bytesAt (now (payload .entry)) p) × (ptr r ≡ placeAt (ptr (payload .entry)) p) ⌝ }
-{
-    let p = reply_part(e, room, payload, 1);
-    wire::part_of(payload, p)
-}
-
-// The signature of a REPLY that the step would accept, likewise.
-pub fn reply_signature<'a>(e: Exchange, room: &[u8], payload: &'a [u8]) -> &'a [u8]
-    ensures { λ r.
-        let p = stepPart e (now (room .entry)) (reply (now (payload .entry))) (now (payload .entry)) 2 in
-        ⌜ (now r ≡ bytesAt (now (payload .entry)) p) × (ptr r ≡ placeAt (ptr (payload .entry)) p) ⌝ }
-{
-    let p = reply_part(e, room, payload, 2);
-    wire::part_of(payload, p)
 }

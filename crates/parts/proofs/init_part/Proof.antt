@@ -1,11 +1,11 @@
--- `steps::init_part` meets its contract. Assumes nothing.
+-- `parts::init_part` meets its contract. Assumes nothing.
 use borrow.Author.Needs.{needs}
 use native.Mathlib.Omega.{arith}
 use denote.Ref.{now}
-use Rattle.steps.proofs.LeafLaws.{init-number, part-refused, part-accepted}
+use Rattle.parts.proofs.StepPartLaws.{init-number, part-refused, part-accepted}
 use Rattle.exchange.specs.Steps.{init}
-use Rattle.steps.proofs.init_part.Statement.{statement}
-use Rattle.steps.proofs.init_part.Tie as tie
+use Rattle.parts.proofs.init_part.Statement.{statement}
+use Rattle.parts.proofs.init_part.Tie as tie
 
 init-cause-requires : tie.Need-init-cause-requires
 init-cause-requires c κs = search needs

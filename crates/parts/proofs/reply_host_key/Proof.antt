@@ -1,12 +1,12 @@
--- `steps::reply_host_key` meets its contract. Assumes nothing.
+-- `parts::reply_host_key` meets its contract. Assumes nothing.
 use borrow.Author.Needs.{needs}
 use lib.ListN.{length}
 use denote.Ref.{now}
 use Rattle.wire.proofs.PartLaws.{part-read}
-use Rattle.steps.proofs.LeafLaws.{part-within}
+use Rattle.parts.proofs.StepPartLaws.{part-within}
 use Rattle.exchange.specs.Steps.{reply, stepPart}
-use Rattle.steps.proofs.reply_host_key.Statement.{statement}
-use Rattle.steps.proofs.reply_host_key.Tie as tie
+use Rattle.parts.proofs.reply_host_key.Statement.{statement}
+use Rattle.parts.proofs.reply_host_key.Tie as tie
 
 reply-part-requires : tie.Need-reply-part-requires
 reply-part-requires c κs = search needs

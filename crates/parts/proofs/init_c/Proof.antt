@@ -1,12 +1,12 @@
--- `steps::init_c` meets its contract. Assumes nothing.
+-- `parts::init_c` meets its contract. Assumes nothing.
 use borrow.Author.Needs.{needs}
 use lib.ListN.{length}
 use denote.Ref.{now}
 use Rattle.wire.proofs.PartLaws.{part-read}
-use Rattle.steps.proofs.LeafLaws.{part-within}
+use Rattle.parts.proofs.StepPartLaws.{part-within}
 use Rattle.exchange.specs.Steps.{init, stepPart}
-use Rattle.steps.proofs.init_c.Statement.{statement}
-use Rattle.steps.proofs.init_c.Tie as tie
+use Rattle.parts.proofs.init_c.Statement.{statement}
+use Rattle.parts.proofs.init_c.Tie as tie
 
 init-part-requires : tie.Need-init-part-requires
 init-part-requires c κs = search needs

@@ -1,11 +1,11 @@
--- `steps::reply_part` meets its contract. Assumes nothing.
+-- `parts::reply_part` meets its contract. Assumes nothing.
 use borrow.Author.Needs.{needs}
 use native.Mathlib.Omega.{arith}
 use denote.Ref.{now}
-use Rattle.steps.proofs.LeafLaws.{reply-number, part-refused, part-accepted}
+use Rattle.parts.proofs.StepPartLaws.{reply-number, part-refused, part-accepted}
 use Rattle.exchange.specs.Steps.{reply}
-use Rattle.steps.proofs.reply_part.Statement.{statement}
-use Rattle.steps.proofs.reply_part.Tie as tie
+use Rattle.parts.proofs.reply_part.Statement.{statement}
+use Rattle.parts.proofs.reply_part.Tie as tie
 
 reply-cause-requires : tie.Need-reply-cause-requires
 reply-cause-requires c κs = search needs

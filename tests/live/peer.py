@@ -1,0 +1,233 @@
+"""A small SSH peer for the tests, written from the RFCs and sharing nothing with the core: version lines, packets in the clear,
+KEXINIT, INIT and REPLY of the curve25519 methods, X25519 (RFC 7748), Ed25519 (RFC 8032) and H."""
+import hashlib
+import socket
+import struct
+
+DISCONNECT, IGNORE, UNIMPLEMENTED, DEBUG, KEXINIT, NEWKEYS, INIT, REPLY = 1, 2, 3, 4, 20, 21, 30, 31
+PASSED_OVER = (IGNORE, UNIMPLEMENTED, DEBUG)
+
+
+# ---- wire
+
+def string(b):
+    return struct.pack(">I", len(b)) + b
+
+
+def unsigned_mpint(big_endian):
+    body = big_endian.lstrip(b"\0")
+    return string(b"\0" + body if body and body[0] & 0x80 else body)
+
+
+def take_string(b):
+    n, = struct.unpack(">I", b[:4])
+    return b[4:4 + n], b[4 + n:]
+
+
+def packet(payload, padding=None):
+    if padding is None:
+        padding = 8 - (5 + len(payload)) % 8
+        padding += 8 if padding < 4 else 0
+    return struct.pack(">IB", 1 + len(payload) + padding, padding) + payload + bytes(padding)
+
+
+def kexinit(kex, host_keys, follows=False, cookie=b"a test's cookie!"):
+    ciphers, macs = b"aes256-ctr,chacha20-poly1305@openssh.com", b"hmac-sha2-256"
+    lists = [kex, host_keys, ciphers, ciphers, macs, macs, b"none", b"none", b"", b""]
+    return bytes([KEXINIT]) + cookie + b"".join(map(string, lists)) + bytes([follows]) + bytes(4)
+
+
+def disconnect(reason, text=b""):
+    return bytes([DISCONNECT]) + struct.pack(">I", reason) + string(text) + string(b"")
+
+
+class Closed(Exception):
+    """The other side has closed."""
+
+
+class Peer:
+    """One connection. Everything that comes in is kept in `seen`, to be judged as a whole at the end."""
+
+    def __init__(self, sock, timeout=20):
+        self.sock, self.seen, self.at = sock, b"", 0
+        sock.settimeout(timeout)
+        sock.setsockopt(socket.IPPROTO_TCP, socket.TCP_NODELAY, 1)
+
+    def send(self, data):
+        try:
+            self.sock.sendall(data)
+        except (BrokenPipeError, ConnectionResetError):
+            raise Closed from None
+
+    def _more(self):
+        try:
+            data = self.sock.recv(65536)
+        except ConnectionResetError:
+            data = b""
+        if not data:
+            raise Closed
+        self.seen += data
+
+    def version(self):
+        while b"\n" not in self.seen:
+            self._more()
+        self.at = self.seen.index(b"\n") + 1
+        return self.seen[:self.at].rstrip(b"\r\n")
+
+    def read(self):
+        """The next packet's payload."""
+        while True:
+            if len(self.seen) >= self.at + 4:
+                n, = struct.unpack(">I", self.seen[self.at:self.at + 4])
+                if len(self.seen) >= self.at + 4 + n:
+                    body = self.seen[self.at + 4:self.at + 4 + n]
+                    self.at += 4 + n
+                    return body[1:len(body) - body[0]]
+            self._more()
+
+    def finish(self):
+        """Ends this side and reads the rest."""
+        try:
+            self.sock.shutdown(socket.SHUT_WR)
+        except OSError:
+            pass
+        try:
+            while True:
+                self._more()
+        except (Closed, OSError):
+            self.sock.close()
+
+
+def payloads(seen):
+    """All packets behind the version line of what one side sent; None if it is not whole packets to its end."""
+    rest, found = seen[seen.index(b"\n") + 1:] if b"\n" in seen else b"", []
+    while rest:
+        if len(rest) < 16:
+            return None
+        n, padding = struct.unpack(">IB", rest[:5])
+        if len(rest) < 4 + n or (4 + n) % 8 or not 4 <= padding < n:
+            return None
+        found.append(rest[5:4 + n - padding])
+        rest = rest[4 + n:]
+    return found
+
+
+# ---- X25519
+
+P = 2**255 - 19
+
+
+def x25519(scalar, u):
+    k = bytearray(scalar)
+    k[0] &= 248
+    k[31] = k[31] & 127 | 64
+    k = int.from_bytes(k, "little")
+    x1 = int.from_bytes(u, "little") % 2**255
+    x2, z2, x3, z3, swap = 1, 0, x1, 1, 0
+    for t in range(254, -1, -1):
+        bit = k >> t & 1
+        if swap != bit:
+            x2, x3, z2, z3 = x3, x2, z3, z2
+        swap = bit
+        a, b, c, d = x2 + z2, x2 - z2, x3 + z3, x3 - z3
+        aa, bb, da, cb = a * a % P, b * b % P, d * a % P, c * b % P
+        e = aa - bb
+        x3, z3 = (da + cb) ** 2 % P, x1 * (da - cb) ** 2 % P
+        x2, z2 = aa * bb % P, e * (aa + 121665 * e) % P
+    if swap:
+        x2, z2 = x3, z3
+    return (x2 * pow(z2, P - 2, P) % P).to_bytes(32, "little")
+
+
+BASE_U = (9).to_bytes(32, "little")
+
+# ---- Ed25519, points as (X, Y, Z, T)
+
+L = 2**252 + 27742317777372353535851937790883648493
+D = -121665 * pow(121666, P - 2, P) % P
+BY = 4 * pow(5, P - 2, P) % P
+
+
+def _x_of(y, sign):
+    xx = (y * y - 1) * pow(D * y * y + 1, P - 2, P) % P
+    x = pow(xx, (P + 3) // 8, P)
+    if (x * x - xx) % P:
+        x = x * pow(2, (P - 1) // 4, P) % P
+    return P - x if x & 1 != sign else x
+
+
+def _add(p, q):
+    a, b = (p[1] - p[0]) * (q[1] - q[0]) % P, (p[1] + p[0]) * (q[1] + q[0]) % P
+    c, d = 2 * p[3] * q[3] * D % P, 2 * p[2] * q[2] % P
+    e, f, g, h = b - a, d - c, d + c, b + a
+    return e * f % P, g * h % P, f * g % P, e * h % P
+
+
+def _times(n, p):
+    q = (0, 1, 1, 0)
+    while n:
+        if n & 1:
+            q = _add(q, p)
+        p, n = _add(p, p), n >> 1
+    return q
+
+
+B = (_x_of(BY, 0), BY, 1, _x_of(BY, 0) * BY % P)
+POWERS = [B]
+while len(POWERS) < 256:
+    POWERS.append(_add(POWERS[-1], POWERS[-1]))
+
+
+def _times_base(n):
+    q = (0, 1, 1, 0)
+    for i, p in enumerate(POWERS):
+        if n >> i & 1:
+            q = _add(q, p)
+    return q
+
+
+def _encode(p):
+    inverse = pow(p[2], P - 2, P)
+    x, y = p[0] * inverse % P, p[1] * inverse % P
+    return (y | (x & 1) << 255).to_bytes(32, "little")
+
+
+def _hash_number(*parts):
+    return int.from_bytes(hashlib.sha512(b"".join(parts)).digest(), "little") % L
+
+
+class Ed25519:
+    def __init__(self, seed):
+        h = hashlib.sha512(seed).digest()
+        self.a = int.from_bytes(h[:32], "little") & (2**254 - 8) | 2**254
+        self.prefix = h[32:]
+        self.public = _encode(_times_base(self.a))
+        self.blob = string(b"ssh-ed25519") + string(self.public)
+
+    def sign(self, message):
+        r = _hash_number(self.prefix, message)
+        big_r = _encode(_times_base(r))
+        s = (r + _hash_number(big_r, self.public, message) * self.a) % L
+        return string(b"ssh-ed25519") + string(big_r + s.to_bytes(32, "little"))
+
+
+def ed25519_holds(blob, signature, message):
+    name, rest = take_string(blob)
+    public, rest = take_string(rest)
+    signed_by, tail = take_string(signature)
+    body, tail = take_string(tail)
+    if not name == signed_by == b"ssh-ed25519" or rest or tail:
+        return False
+    y = int.from_bytes(public, "little")
+    sign, y = y >> 255, y % 2**255
+    x = _x_of(y, sign)
+    a = (x, y, 1, x * y % P)
+    s = int.from_bytes(body[32:], "little")
+    k = _hash_number(body[:32], public, message)
+    return _encode(_add(_times_base(s), _times(k, (P - a[0], a[1], 1, P - a[3])))) == body[:32]
+
+
+# ---- H of the curve25519 methods
+
+def exchange_hash(v_c, v_s, i_c, i_s, k_s, c, s, x):
+    return hashlib.sha256(b"".join(map(string, (v_c, v_s, i_c, i_s, k_s, c, s))) + unsigned_mpint(x)).digest()
