@@ -130,7 +130,7 @@ verdict-fed = if-fails _ 5 _ (le-ltb (length (zeros kLeast)) kLeast (omega (arit
 -- a call that is next and has no cause against it moves the book
 moves : (room : ℕ) (b : Book) (q : Call) → roomLeast ≤ room → b .faulted ≡ false → eqb (getD (stepsOf (b .role)) (b .done) 0) (stepNo q) ≡ true → fedCause (b .role) (b .method) q ≡ 0
     → noted room b q ≡ moved b q
-unfolding noted firstCause kind
+unfolding noted firstCause
 moves room b q h f n z =
     let e : firstCause room b q ≡ 0 = if-fails (b .faulted) 1 _ f ∙ unless-holds _ 1 _ n ∙ if-fails _ 3 _ (le-ltb room roomLeast h) ∙ z in
     rw e

@@ -1,11 +1,9 @@
--- What kind a number is of, and what a refusal hands back. Assumes nothing.
+-- What kind a number is of. Assumes nothing.
 use Prim.Native.Nat.{ℕ, _≤_, _<_}
-use mathlib.Core.Path.{_≡_, refl}
-use mathlib.Core.Bool.{Bool, true, false, cond}
+use mathlib.Core.Path.{_≡_}
 use native.Mathlib.Omega.{arith}
-use lib.Dec.{leb}
 use borrow.Author.Tests.{le-leb, lt-leb, eq-eqb, ne-eqb}
-use Rattle.exchange.specs.Steps.{accepted, refused, fault, kind, byKind}
+use Rattle.exchange.specs.Steps.{accepted, refused, fault, kind}
 
 -- 0
 pub kind-accepted : (n : ℕ) → n ≡ 0 → kind n ≡ accepted
@@ -21,12 +19,3 @@ kind-refused n h k = let z : n ≡ 0 → ⊥ = λ e. omega arith in rw (ne-eqb n
 pub kind-fault : (n : ℕ) → 5 < n → kind n ≡ fault
 unfolding kind
 kind-fault n h = let z : n ≡ 0 → ⊥ = λ e. omega arith in rw (ne-eqb n 0 z, lt-leb n 5 h)
-
--- a number above 0 is of one of the two kinds that hand nothing back
-pub by-refusal : {A : Type 0} (n : ℕ) (a r : A) → (n ≡ 0 → ⊥) → byKind (kind n) a r r ≡ r
-unfolding kind
-by-refusal n a r h = rw (ne-eqb n 0 h) (by-test (leb n 5))
-  where
-    by-test : (t : Bool) → byKind (cond t refused fault) a r r ≡ r
-    by-test true = refl
-    by-test false = refl

@@ -1,5 +1,5 @@
 -- The exchange and the room follow the book, call by call: demand 3 over the definitions. Assumes nothing.
-use Prim.Native.Nat.{ℕ, zero, suc, _+_, _-_, _≤_, zero-le}
+use Prim.Native.Nat.{ℕ, zero, suc, _+_, _≤_, zero-le}
 use mathlib.Core.Path.{_≡_, refl, sym, ap, ap₂, _∙_}
 use mathlib.Core.Logic.{_⊎_, inl, inr, ⊎-elim}
 use mathlib.Core.List.{List, [], _∷_, _++_, append-nil}
@@ -7,22 +7,23 @@ use mathlib.Core.Bool.{Bool, true, false, cond, not, _&&_, _||_, false≢true}
 use native.Mathlib.Omega.{arith}
 use lib.ListN.{length, getD}
 use lib.Dec.{eqb, leb, ltb, eqb·suc-zero}
-use borrow.Author.Tests.{eqb-true, eqb-false, le-ltb, ne-eqb}
+use borrow.Author.Tests.{eqb-true, eqb-false, le-ltb}
 use Rattle.wire.specs.Bytes.{zeros, onto}
-use Rattle.wire.specs.Causes.{causeIf, causeUnless, orElse}
+use Rattle.wire.specs.Causes.{causeIf, causeUnless}
 use Rattle.wire.proofs.ByteLaws.{length-onto}
 use Rattle.wire.proofs.CauseLaws.{if-none, unless-none}
 use Rattle.methods.specs.Rows.{rowOf, kMost}
 use Rattle.methods.specs.Form.{lengthFits}
 use Rattle.methods.proofs.FormLaws.{length-most}
-use Rattle.messages.specs.Messages.{within, fieldOf, messageCause}
+use Rattle.messages.specs.Messages.{within, fieldOf}
 use Rattle.messages.proofs.MessageLaws.{within-least, within-most}
 use Rattle.transcript.specs.Fields.{field, fieldLength}
 use Rattle.transcript.proofs.RoomLaws.{fieldLength-most}
 use Rattle.secret.specs.Secret.{kSize}
-use Rattle.exchange.specs.Causes.{roomLeast, replyLeast, kLeast, blobOk, methodOk, roleOk, startCause, ownCCause, initCause, replyCause, secretCause, signCause, verdictCause}
+use Rattle.exchange.specs.Causes.{roomLeast, replyLeast, kLeast, blobOk, roleOk, startCause, signCause}
 use Rattle.exchange.specs.Record.{ended, noLengths, nextStep, cFits, sFits, kFits, due}
 use Rattle.exchange.specs.Steps.{Call, ownC, init, reply, secret, sign, verdict, stepNo, fedCause, number, numbered, Kind, accepted, refused, fault, kind, byKind, fieldsEnd, filled, taken, kRecord, exchangeAfter, roomAfter, started, startedRoom}
+use Rattle.exchange.proofs.TableLaws.{OfEach, if-keeps, unless-keeps, fed-keeps, noted-kind}
 use Rattle.exchange.specs.Book.{Fields, Book, noFields, opened, stepsOf, firstCause, joined, moved, dropped, noted, hasAll, hashInput, roomTold, isComplete, causes, lastBook}
 use Rattle.exchange.specs.Demand.{numbersOf, lastExchange, lastRoom, Never, Held}
 use Rattle.exchange.specs.declared.Stage.{Stage}
@@ -282,10 +283,10 @@ dead-cause l b q x = rw x
 -- one call keeps the relation, and its number is the book's
 step : (room : List ℕ) (b : Book) (e : Exchange) (room′ : List ℕ) (q : Call) → roomLeast ≤ length room → Sim room b e room′ →
     (number e room′ q ≡ firstCause (length room) b q) × Sim room (noted (length room) b q) (exchangeAfter e room′ q) (roomAfter e room′ q)
-unfolding noted exchangeAfter roomAfter kind
-step room b e room′ q h (live s x y) = rw (x, y) (number-live room b q h s, rw (number-live room b q h s) (settle room b q _ _ h s refl refl))
+unfolding exchangeAfter roomAfter kind
+step room b e room′ q h (live s x y) = rw (x, y) (number-live room b q h s, rw (noted-kind (length room) b q, number-live room b q h s) (settle room b q _ _ h s refl refl))
 step room b e room′ q h (dead n x f y z) =
-    (dead-number e room′ n q y ∙ sym (dead-cause (length room) b q x), rw (dead-number e room′ n q y, dead-cause (length room) b q x) (dead n x f y z))
+    (dead-number e room′ n q y ∙ sym (dead-cause (length room) b q x), rw (noted-kind (length room) b q, dead-number e room′ n q y, dead-cause (length room) b q x) (dead n x f y z))
 
 -- a list of calls
 run : (room : List ℕ) (b : Book) (e : Exchange) (room′ : List ℕ) (qs : List Call) → roomLeast ≤ length room → Sim room b e room′ →
@@ -298,42 +299,16 @@ run room b e room′ (q ∷ qs) h s =
 
 -- ---- no number is 3 where the room is long enough
 
-unless-not3 : (t : Bool) (n x : ℕ) → eqb n 3 ≡ false → eqb x 3 ≡ false → eqb (causeUnless t n x) 3 ≡ false
-unfolding causeUnless
-unless-not3 true n x a b = b
-unless-not3 false n x a b = a
-
-if-not3 : (t : Bool) (n x : ℕ) → eqb n 3 ≡ false → eqb x 3 ≡ false → eqb (causeIf t n x) 3 ≡ false
-unfolding causeIf
-if-not3 true n x a b = a
-if-not3 false n x a b = b
-
-else-not3 : (a b : ℕ) → eqb a 3 ≡ false → eqb b 3 ≡ false → eqb (orElse a b) 3 ≡ false
-unfolding orElse
-else-not3 a b p q = by-test (eqb a 0)
-  where
-    by-test : (t : Bool) → eqb (cond t b a) 3 ≡ false
-    by-test true = q
-    by-test false = p
-
-message-not3 : (byte k : ℕ) (p : List ℕ) → eqb (messageCause byte k p) 3 ≡ false
-unfolding messageCause
-message-not3 byte k p = unless-not3 _ 10 _ refl (unless-not3 _ 11 _ refl (unless-not3 _ 12 _ refl (if-not3 _ 13 0 refl refl)))
-
-fed-not3 : (role m : ℕ) (q : Call) → eqb (fedCause role m q) 3 ≡ false
-unfolding fedCause ownCCause initCause replyCause secretCause signCause verdictCause
-fed-not3 role m (ownC c out) = unless-not3 _ 4 _ refl (if-not3 _ 5 0 refl refl)
-fed-not3 role m (init p) = else-not3 _ _ (message-not3 30 1 p) (unless-not3 _ 14 _ refl (unless-not3 _ 15 0 refl refl))
-fed-not3 role m (reply p) = else-not3 _ _ (message-not3 31 3 p) (unless-not3 _ 14 _ refl (unless-not3 _ 15 0 refl refl))
-fed-not3 role m (secret cl x kem d ks s) = unless-not3 _ 4 _ refl (if-not3 _ 16 _ refl (if-not3 _ 17 0 refl refl))
-fed-not3 role m (sign g out kOut) = unless-not3 _ 4 _ refl (if-not3 _ 5 0 refl refl)
-fed-not3 role m (verdict u v kOut) = if-not3 _ 5 _ refl (unless-not3 _ 18 0 refl refl)
+abbrev other-than-3 : ℕ → Bool
+other-than-3 n = not (eqb n 3)
 
 not3 : (l : ℕ) (b : Book) (q : Call) → roomLeast ≤ l → firstCause l b q ≡ 3 → ⊥
-unfolding firstCause
+unfolding firstCause causeIf
 not3 l b q h e =
-    let c : eqb (causeIf (ltb l roomLeast) 3 (fedCause (b .role) (b .method) q)) 3 ≡ false = unfold causeIf in rw (le-ltb l roomLeast h) (fed-not3 (b .role) (b .method) q) in
-    eqb-false _ 3 (if-not3 _ 1 _ refl (unless-not3 _ 1 _ refl c)) e
+    let each : OfEach other-than-3 = record { of0 = refl; of4 = refl; of5 = refl; of10 = refl; of11 = refl; of12 = refl; of13 = refl; of14 = refl; of15 = refl; of16 = refl; of17 = refl; of18 = refl } in
+    let c : other-than-3 (causeIf (ltb l roomLeast) 3 (fedCause (b .role) (b .method) q)) ≡ true = rw (le-ltb l roomLeast h) (fed-keeps other-than-3 each (b .role) (b .method) q) in
+    let d = if-keeps other-than-3 (b .faulted) 1 _ refl (unless-keeps other-than-3 (eqb (getD (stepsOf (b .role)) (b .done) 0) (stepNo q)) 1 _ refl c) in
+    false≢true (ap other-than-3 (sym e) ∙ d)
 
 never-3 : (l : ℕ) (b : Book) (qs : List Call) → roomLeast ≤ l → Never 3 (causes l b qs)
 never-3 l b [] h = tt

@@ -4,13 +4,13 @@ use Prim.Native.Nat.{ℕ, _+_}
 use mathlib.Core.List.{List, [], _∷_, _++_}
 use mathlib.Core.Bool.{Bool, true, false, cond, not, _&&_}
 use lib.ListN.{length, getD, drop}
-use lib.Dec.{ltb, eqb}
+use lib.Dec.{ltb, leb, eqb}
 use Rattle.wire.specs.Bytes.{zeros, onto}
 use Rattle.wire.specs.Causes.{causeIf, causeUnless}
 use Rattle.messages.specs.Messages.{fieldOf}
 use Rattle.transcript.specs.Fields.{field}
 use Rattle.exchange.specs.Causes.{roomLeast, kOf}
-use Rattle.exchange.specs.Steps.{Call, ownC, init, reply, secret, sign, verdict, stepNo, fedCause, kind, byKind}
+use Rattle.exchange.specs.Steps.{Call, ownC, init, reply, secret, sign, verdict, stepNo, fedCause}
 use Rattle.exchange.specs.declared.Stage.{Stage}
 use Rattle.exchange.specs.declared.Stage.the-variants.{Started, CSent, InitRead, ReplyRead, SecretDone, Complete, Failed}
 
@@ -77,8 +77,14 @@ moved b q = record { role = b .role; method = b .method; done = b .done + 1; fie
 abbrev pub dropped : Book → Book
 dropped b = record { role = b .role; method = b .method; done = b .done; fields = noFields; faulted = true }
 
+-- a peer's fault, by the table of numbers
+abbrev pub isFault : ℕ → Bool
+isFault n = leb 10 n && leb n 18
+
 unfoldable pub noted : ℕ → Book → Call → Book
-noted room b q = byKind (kind (firstCause room b q)) (moved b q) b (dropped b)
+noted room b q =
+    cond (eqb (firstCause room b q) 0) (moved b q)
+    (cond (isFault (firstCause room b q)) (dropped b) b)
 
 -- the book has every step of its role
 unfoldable pub hasAll : Book → Bool

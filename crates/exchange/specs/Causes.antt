@@ -1,5 +1,5 @@
 -- Document 01's causes on what the caller hands in and on what the peer sent: for the start and each step the first that holds.
--- Steps and book share these, the table's division of numbers (`kind`), the wire encodings and the method row. Assumes nothing.
+-- Steps and book share these, the wire encodings and the method row. Assumes nothing.
 use Prim.Native.Nat.{ℕ}
 use mathlib.Core.List.{List, [], _∷_}
 use mathlib.Core.Bool.{Bool, true, false, cond, not, _&&_, _||_}

@@ -10,7 +10,8 @@ use Rattle.messages.specs.Messages.{fieldPart}
 use Rattle.exchange.specs.Causes.{initCause, replyCause}
 use Rattle.exchange.specs.Steps.{Call, init, reply, Kind, accepted, refused, fault, kind, byKind, numbered, fedCause, number, stepPart}
 use Rattle.exchange.specs.declared.Exchange.{Exchange}
-use Rattle.exchange.proofs.KindLaws.{kind-accepted, by-refusal}
+use Rattle.exchange.proofs.KindLaws.{kind-accepted}
+use Rattle.exchange.proofs.StepLaws.{kind-same}
 use Rattle.judge.proofs.JudgeLaws.{field-within}
 
 module _ (e : Exchange) (room p : List ℕ) (n fed : ℕ) where
@@ -28,7 +29,7 @@ module _ (e : Exchange) (room : List ℕ) (q : Call) (p : List ℕ) (i n : ℕ) 
   -- nothing of a message that is refused
   pub part-refused : (n ≡ 0 → ⊥) → nothing ≡ stepPart e room q p i
   unfolding stepPart
-  part-refused h = sym (by-refusal (number e room q) (fieldPart p i) nothing (λ z. h (f ∙ z)))
+  part-refused h = sym (kind-same (number e room q) (fieldPart p i) nothing (λ z. h (f ∙ z)))
 
   -- string i of one that is accepted
   pub part-accepted : n ≡ 0 → (r : Part) → r ≡ fieldPart p i → r ≡ stepPart e room q p i
