@@ -1,0 +1,117 @@
+//! timing: from the start through the secret step as server, all fields at their largest, on the compiled core and on the plain
+//! implementation in turns. Medians of 1,001, each of so many exchanges that the clock's own step does not show; rooms cleared first.
+use castulfrisa::raw;
+use std::hint::black_box;
+use std::time::Instant;
+
+const TURNS: usize = 1001;
+const EACH: usize = 16;
+
+struct Fed {
+    method: u8,
+    v: Vec<u8>,
+    i: Vec<u8>,
+    init: Vec<u8>,
+    x: Vec<u8>,
+    digest: Vec<u8>,
+    ks: Vec<u8>,
+    s: Vec<u8>,
+}
+
+fn fed(method: u8) -> Fed {
+    let m = plain::method(method).unwrap();
+    let value = |len, classical: usize| {
+        let mut v = vec![9; len];
+        v[classical] = 4;
+        v
+    };
+    let mut i = vec![1; 4096];
+    i[0] = 20;
+    let c = value(m.c_len, m.c_classical);
+    let mut init = vec![30];
+    init.extend((c.len() as u32).to_be_bytes());
+    init.extend(&c);
+    let digest = if m.hybrid { vec![7; m.digest_len] } else { Vec::new() };
+    Fed { method, v: vec![b'v'; 253], i, init, x: vec![0x80; m.x_len], digest, ks: vec![5; 2048], s: value(m.s_len, m.s_classical) }
+}
+
+fn on_core(f: &Fed, room: &mut [u8]) -> usize {
+    let a = raw::start(2, f.method, &f.v, &f.v, &f.i, &f.i, room);
+    let a = raw::read_init(a.record, room, &f.init);
+    let kem = if f.digest.is_empty() { 0 } else { 2 };
+    raw::take_secret(a.record, room, true, f.x.len(), &f.x, kem, &f.digest, &f.ks, &f.s).count
+}
+
+fn on_plain(f: &Fed, room: &mut [u8]) -> usize {
+    let a = plain::start(2, f.method, &f.v, &f.v, &f.i, &f.i, room);
+    let a = plain::read_init(a.exchange, room, &f.init);
+    let kem = if f.digest.is_empty() { plain::Kem::Absent } else { plain::Kem::Done };
+    plain::take_secret(a.exchange, room, plain::Classical::Given(f.x.len()), &f.x, kem, &f.digest, &f.ks, &f.s).count
+}
+
+fn one(f: &Fed, room: &mut [u8], run: fn(&Fed, &mut [u8]) -> usize) -> f64 {
+    room.fill(0);
+    let from = Instant::now();
+    for _ in 0..EACH {
+        black_box(run(black_box(f), black_box(room)));
+    }
+    from.elapsed().as_nanos() as f64 / EACH as f64
+}
+
+fn median(mut v: Vec<f64>) -> f64 {
+    v.sort_by(f64::total_cmp);
+    v[v.len() / 2]
+}
+
+/// The KEXINIT whose choice searches longest: one method, then one-byte host key names up to 4,096 bytes, only the last one in both.
+fn crowded(name: u8) -> Vec<u8> {
+    let kex = b"curve25519-sha256";
+    let room = 4096 - 62 - kex.len();
+    let mut names: Vec<u8> = [name, b','].iter().copied().cycle().take(room - (1 - room % 2)).collect();
+    *names.last_mut().unwrap() = b'z';
+    let mut v = vec![20];
+    v.extend([7; 16]);
+    for list in [&kex[..], &names, b"", b"", b"", b"", b"", b"", b"", b""] {
+        v.extend((list.len() as u32).to_be_bytes());
+        v.extend(list);
+    }
+    v.extend([0; 5]);
+    v
+}
+
+fn choices() {
+    let (client, server) = (crowded(b'c'), crowded(b's'));
+    let core = raw::choose(&client, &server);
+    let model = plain::choose(&client, &server);
+    assert_eq!((core.number, core.method, core.host_key.start), (0, 1, model.host_key.start));
+    let time = |run: &dyn Fn() -> u8| {
+        let from = Instant::now();
+        black_box(run());
+        from.elapsed().as_nanos() as f64 / 1e6
+    };
+    let (mut cores, mut models) = (Vec::new(), Vec::new());
+    for _ in 0..31 {
+        cores.push(time(&|| raw::choose(black_box(&client), black_box(&server)).number));
+        models.push(time(&|| plain::choose(black_box(&client), black_box(&server)).number));
+    }
+    let (core, model) = (median(cores), median(models));
+    println!("the choice that searches longest, {} bytes each: core {:.1} ms, plain Rust {:.1} ms, {:.2} times", client.len(), core, model, core / model);
+}
+
+fn main() {
+    choices();
+    let (mut core_room, mut plain_room) = (vec![0; plain::ROOM], vec![0; plain::ROOM]);
+    for method in [1, 8] {
+        let f = fed(method);
+        let count = on_core(&f, &mut core_room);
+        assert_eq!(count, on_plain(&f, &mut plain_room));
+        assert_eq!(core_room, plain_room);
+        let (mut core, mut model) = (Vec::new(), Vec::new());
+        for _ in 0..TURNS {
+            core.push(one(&f, &mut core_room, on_core));
+            model.push(one(&f, &mut plain_room, on_plain));
+        }
+        let (core, model) = (median(core), median(model));
+        println!("method {}: {} bytes hashed; core {:.0} ns, plain Rust {:.0} ns, {:.2} times", method, count, core, model, core / model);
+    }
+}
