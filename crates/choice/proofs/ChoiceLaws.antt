@@ -7,7 +7,7 @@ use native.Mathlib.Omega.{arith}
 use lib.ListN.{length, take, drop}
 use lib.Dec.{eqb}
 use borrow.Author.Tests.{eq-eqb, ne-eqb, eqb-true, eqb-false}
-use Rattle.wire.specs.Bytes.{same}
+use Rattle.buffers.specs.Bytes.{same}
 use Rattle.wire.specs.Causes.{orElse}
 use Rattle.wire.specs.declared.Part.{Part}
 use Rattle.wire.proofs.CauseLaws.{if-holds, if-fails, unless-holds, unless-fails, unless-none}

@@ -6,7 +6,7 @@ use mathlib.Core.Bool.{Bool, true, false, cond, _&&_, _||_}
 use native.Mathlib.Omega.{arith}
 use lib.ListN.{length}
 use borrow.Author.Tests.{lt-ltb, le-ltb}
-use Rattle.wire.specs.Bytes.{same}
+use Rattle.buffers.specs.Bytes.{same}
 use Rattle.wire.specs.Parts.{part, nothing, inside, bytesAt}
 use Rattle.wire.specs.declared.Part.{Part}
 use Rattle.wire.proofs.PartLaws.{inside-fits}

@@ -3,7 +3,7 @@ use Prim.Native.Nat.{ℕ}
 use mathlib.Core.List.{List, [], _∷_}
 use mathlib.Core.Bool.{Bool, false, cond, not, _&&_, _||_}
 use lib.Dec.{eqb}
-use Rattle.wire.specs.Bytes.{same}
+use Rattle.buffers.specs.Bytes.{same}
 use Rattle.wire.specs.Causes.{causeIf, causeUnless, orElse}
 use Rattle.wire.specs.Parts.{nothing, bytesAt}
 use Rattle.wire.specs.declared.Part.{Part}

@@ -4,7 +4,7 @@ use names::Cursor;
 use wire::Part;
 ghost use mathlib.Core.Path.{_≡_};
 ghost use denote.Ref.{ptr};
-ghost use Rattle.wire.specs.Bytes.{same};
+ghost use Rattle.buffers.specs.Bytes.{same};
 ghost use Rattle.wire.specs.Parts.{bytesAt, placeAt};
 ghost use Rattle.names.specs.Names.{upToBad};
 ghost use Rattle.names.specs.Cursor.{ahead};
@@ -43,7 +43,7 @@ pub fn common_method(client: &[u8], c: Cursor, server: &[u8], s: Cursor) -> u8
                     break;
                 }
                 let other = m.name;
-                if wire::equal(name, wire::part_of(server, other)) {
+                if buffers::equal(name, wire::part_of(server, other)) {
                     break 'search method;
                 }
                 let next = m.cursor;
@@ -66,7 +66,7 @@ fn among(name: &[u8], server: &[u8], s: Cursor) -> bool
             return false;
         }
         let other = m.name;
-        if wire::equal(name, wire::part_of(server, other)) {
+        if buffers::equal(name, wire::part_of(server, other)) {
             return true;
         }
         let next = m.cursor;
@@ -101,7 +101,7 @@ fn same_first(client: &[u8], c: Cursor, server: &[u8], s: Cursor) -> bool
     let m = names::next_name(server, s);
     let place = n.name;
     let other = m.name;
-    wire::equal(wire::part_of(client, place), wire::part_of(server, other))
+    buffers::equal(wire::part_of(client, place), wire::part_of(server, other))
 }
 
 // Judges a payload and every name of its ten lists: 10 to 13, then 19.

@@ -41,7 +41,7 @@ fn make(out: &mut [u8], name: u8) {
     let mut space = [0u8; 4019];
     let list: &mut [u8] = &mut space;
     fill(list, name);
-    wire::put_bytes(list, 4018, b"z");
+    buffers::put_bytes(list, 4018, b"z");
     write(out, list);
 }
 

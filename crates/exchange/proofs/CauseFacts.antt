@@ -7,7 +7,7 @@ use native.Mathlib.Omega.{arith}
 use lib.ListN.{length, getD, drop}
 use lib.Dec.{leb, ltb, eqb}
 use borrow.Author.Tests.{eqb-true, leb-true, le-leb, eq-eqb, ltb-false}
-use Rattle.wire.specs.Bytes.{zeros, onto}
+use Rattle.buffers.specs.Bytes.{zeros, onto}
 use Rattle.wire.specs.Strings.{number32, string}
 use Rattle.wire.proofs.CauseLaws.{if-none, unless-none, orElse-none}
 use Rattle.wire.proofs.StringLaws.{and-true, length-string}

@@ -9,7 +9,7 @@ use lib.ListN.{length, getD, replicate, length-append, length-replicate}
 use lib.Seq.{getD-at}
 use lib.Dec.{eqb, leb, ltb}
 use borrow.Author.Tests.{le-ltb, eq-eqb, ne-eqb}
-use Rattle.wire.specs.Bytes.{zeros}
+use Rattle.buffers.specs.Bytes.{zeros}
 use Rattle.wire.proofs.CauseLaws.{if-fails, unless-holds, orElse-second}
 use Rattle.wire.proofs.StringLaws.{and-true}
 use Rattle.methods.specs.Rows.{rowOf}

@@ -4,7 +4,7 @@ use mathlib.Core.Path.{_≡_, refl, sym, ap, _∙_}
 use mathlib.Core.List.{List, [], _∷_, _++_, append-assoc, append-nil}
 use native.Mathlib.Omega.{arith}
 use lib.ListN.{length, take, drop, length-append}
-use Rattle.wire.specs.Bytes.{onto, over}
+use Rattle.buffers.specs.Bytes.{onto, over}
 use Rattle.transcript.specs.Fields.{field, fieldLength}
 use Rattle.transcript.proofs.RoomLaws.{length-field, over-onto, inserted}
 use Rattle.exchange.specs.Steps.{headEnd, fieldsEnd, standingC}

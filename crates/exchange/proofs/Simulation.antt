@@ -8,9 +8,9 @@ use native.Mathlib.Omega.{arith}
 use lib.ListN.{length, getD}
 use lib.Dec.{eqb, leb, ltb, eqb·suc-zero}
 use borrow.Author.Tests.{eqb-true, eqb-false, le-ltb}
-use Rattle.wire.specs.Bytes.{zeros, onto}
+use Rattle.buffers.specs.Bytes.{zeros, onto}
 use Rattle.wire.specs.Causes.{causeIf, causeUnless}
-use Rattle.wire.proofs.ByteLaws.{length-onto}
+use Rattle.buffers.proofs.ByteLaws.{length-onto}
 use Rattle.wire.proofs.CauseLaws.{if-none, unless-none}
 use Rattle.methods.specs.Rows.{rowOf, kMost}
 use Rattle.methods.specs.Form.{lengthFits}

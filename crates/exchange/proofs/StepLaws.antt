@@ -8,7 +8,7 @@ use native.Mathlib.Omega.{arith}
 use lib.ListN.{length, take, drop}
 use lib.Dec.{eqb, leb, ltb}
 use borrow.Author.Tests.{eqb-true, ltb-false, ne-eqb}
-use Rattle.wire.specs.Bytes.{zeros, onto}
+use Rattle.buffers.specs.Bytes.{zeros, onto}
 use Rattle.wire.proofs.CauseLaws.{if-none, unless-none}
 use Rattle.wire.proofs.StringLaws.{and-true}
 use Rattle.methods.specs.Rows.{rowOf, kMost}

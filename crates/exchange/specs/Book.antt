@@ -5,7 +5,7 @@ use mathlib.Core.List.{List, [], _∷_, _++_}
 use mathlib.Core.Bool.{Bool, true, false, cond, not, _&&_}
 use lib.ListN.{length, getD, drop}
 use lib.Dec.{ltb, leb, eqb}
-use Rattle.wire.specs.Bytes.{zeros, onto}
+use Rattle.buffers.specs.Bytes.{zeros, onto}
 use Rattle.wire.specs.Causes.{causeIf, causeUnless}
 use Rattle.messages.specs.Messages.{fieldOf}
 use Rattle.transcript.specs.Fields.{field}

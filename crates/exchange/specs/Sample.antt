@@ -4,7 +4,7 @@ use mathlib.Core.List.{List, [], _∷_, _++_}
 use mathlib.Core.Bool.{true, cond}
 use lib.ListN.{replicate}
 use lib.Dec.{eqb}
-use Rattle.wire.specs.Bytes.{zeros}
+use Rattle.buffers.specs.Bytes.{zeros}
 use Rattle.messages.specs.Messages.{initBytes, replyBytes}
 use Rattle.methods.specs.Rows.{rowOf}
 use Rattle.methods.specs.declared.KForm.{KForm}

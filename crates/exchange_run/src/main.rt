@@ -195,7 +195,7 @@ fn field(rec: &[u8], i: usize) -> &[u8] {
 
 // Whether string i of the room is a field of the capture.
 fn has_string(room: &[u8], i: usize, rec: &[u8], name: usize) -> bool {
-    wire::equal(string_from(room, 0, i), field(rec, name))
+    buffers::equal(string_from(room, 0, i), field(rec, name))
 }
 
 // Whether the room begins with both V and both I.
@@ -241,7 +241,7 @@ fn has_k(room: &[u8], rec: &[u8]) -> bool {
         start: strings_end(room, 7),
         len: k.len(),
     };
-    wire::equal(wire::part_of(room, p), k)
+    buffers::equal(wire::part_of(room, p), k)
 }
 
 fn put_rest(room: &[u8], from: usize) {
@@ -276,7 +276,7 @@ fn start_captured(role: u8, rec: &[u8], room: &mut [u8]) -> Exchange {
 
 // An output: what was captured, and behind it what was lent.
 fn put_output(name: &[u8], out: &[u8], count: usize, captured: &[u8]) {
-    fact(name, wire::equal(front(out, count), captured));
+    fact(name, buffers::equal(front(out, count), captured));
     put_rest(out, count);
 }
 
@@ -297,7 +297,7 @@ fn init_part(e: Exchange, rec: &[u8], room: &[u8]) {
     text(b"  C of INIT:");
     let c = parts::init_c(e, room, field(rec, INIT));
     item(c.len());
-    fact(b"C", wire::equal(c, field(rec, C)));
+    fact(b"C", buffers::equal(c, field(rec, C)));
     end();
 }
 
@@ -327,9 +327,9 @@ fn reply_parts(e: Exchange, rec: &[u8], room: &[u8]) {
     item(ks.len());
     item(s.len());
     item(signature.len());
-    fact(b"K_S", wire::equal(ks, field(rec, K_S)));
-    fact(b"S", wire::equal(s, field(rec, S)));
-    fact(b"signature", wire::equal(signature, signature_of(rec)));
+    fact(b"K_S", buffers::equal(ks, field(rec, K_S)));
+    fact(b"S", buffers::equal(s, field(rec, S)));
+    fact(b"signature", buffers::equal(signature, signature_of(rec)));
     end();
 }
 
@@ -375,7 +375,7 @@ fn secret_captured(e: Exchange, rec: &[u8], ks: &[u8], s: &[u8], room: &mut [u8]
 
 // The K output: K, zeros to 71 bytes, and behind them what was lent.
 fn put_k_output(out: &[u8], count: usize, k: &[u8]) {
-    fact(b"K output", wire::equal(front(out, count), k));
+    fact(b"K output", buffers::equal(front(out, count), k));
     fact(b"zeros", rest_is(front(out, 71), count, 0));
     put_rest(out, 71);
 }

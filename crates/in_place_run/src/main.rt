@@ -38,7 +38,7 @@ fn same_lengths(a: Lengths, b: Lengths) -> bool {
 }
 
 fn same_k(a: [u8; 71], b: [u8; 71]) -> bool {
-    wire::equal(&a, &b)
+    buffers::equal(&a, &b)
 }
 
 fn same_exchange(a: Exchange, b: Exchange) -> bool {
@@ -69,7 +69,7 @@ fn put(name: &[u8], a: Step, b: Step, left: &[u8], right: &[u8]) {
     space();
     decimal(a.second);
     let s = same(a, b);
-    let r = wire::equal(left, right);
+    let r = buffers::equal(left, right);
     if s && r {
         text(b" equal");
     } else {
@@ -203,7 +203,7 @@ fn verdict(e: Exchange, host_key: bool, left: &mut [u8], right: &mut [u8]) -> Ex
     let a = steps::verdict(e, left, true, host_key, &mut k);
     let b = in_place::verdict_through(e, right, true, host_key, &mut j);
     put(b"verdict", a, b, left, right);
-    if !wire::equal(&k, &j) {
+    if !buffers::equal(&k, &j) {
         text(b"K differs\n");
     }
     b.exchange

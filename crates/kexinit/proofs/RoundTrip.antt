@@ -9,7 +9,7 @@ use lib.ListN.{length, getD, take, drop, set, length-append, length-drop, take-a
 use lib.Seq.{append-snoc, drop-append-seam, getD-drop, take-all, take-at, drop-at, drop-drop, drop-cons, set-at, set-getD, length-take-le}
 use lib.Dec.{leb, eqb}
 use borrow.Author.Tests.{le-leb, le-ltb, eq-eqb, leb-true, ltb-false, eqb-true}
-use Rattle.wire.specs.Bytes.{Bytes}
+use Rattle.buffers.specs.Bytes.{Bytes}
 use Rattle.wire.specs.Parts.{part, bytesAt}
 use Rattle.wire.specs.Strings.{bytes32, number32, numberAt, strings, walk}
 use Rattle.wire.specs.declared.Walk.{Walk}

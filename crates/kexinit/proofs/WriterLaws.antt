@@ -8,9 +8,9 @@ use lib.ListN.{length, set, length-append, length-set}
 use lib.Seq.{sets-eq}
 use lib.Dec.{leb, eqb}
 use borrow.Author.Tests.{le-leb, lt-leb, leb-true, leb-false, lt-ltb, le-ltb, eq-eqb, ne-eqb}
-use Rattle.wire.specs.Bytes.{onto, over, laid}
+use Rattle.buffers.specs.Bytes.{onto, over, laid}
 use Rattle.wire.specs.Strings.{bytes32, string, strings}
-use Rattle.wire.proofs.ByteLaws.{over-zero, length-over, over-over, laid-fits, laid-kept, laid-laid}
+use Rattle.buffers.proofs.ByteLaws.{over-zero, length-over, over-over, laid-fits, laid-kept, laid-laid}
 use Rattle.wire.proofs.CauseLaws.{if-holds, if-fails, unless-holds, unless-fails}
 use Rattle.names.specs.Names.{every, goodList}
 use Rattle.kexinit.specs.Message.{Kexinit, message, kexinit, writeCause}

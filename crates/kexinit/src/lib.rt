@@ -8,7 +8,7 @@ ghost use mathlib.Core.Bool.{cond};
 ghost use Prim.Native.Nat.{_+_, _≤_};
 ghost use lib.ListN.{length};
 ghost use denote.Ref.{ptr};
-ghost use Rattle.wire.specs.Bytes.{laid};
+ghost use Rattle.buffers.specs.Bytes.{laid};
 ghost use Rattle.wire.specs.Parts.{bytesAt, placeAt};
 ghost use Rattle.wire.specs.Strings.{string, strings};
 ghost use Rattle.wire.specs.Writers.{wrote, leaves};
@@ -240,7 +240,7 @@ pub fn write_kexinit(
         };
     }
     out[0] = 20;
-    wire::put_bytes(out, 1, cookie);
+    buffers::put_bytes(out, 1, cookie);
     let middle = put_five(out, 17, kex, host_key, cipher_in, cipher_out, mac_in);
     let end = put_five(
         out,

@@ -134,7 +134,7 @@ fn past_payload(s: &[u8]) {
 fn sizes() {
     let mut space = io::large_buffer();
     let room: &mut [u8] = &mut space;
-    wire::put_bytes(room, 0, b"\x14");
+    buffers::put_bytes(room, 0, b"\x14");
     wire::put_u32(room, 17, 4034);
     full_payload(room);
     wire::put_u32(room, 17, 4035);
@@ -268,7 +268,7 @@ fn names_case(list: &[u8]) {
     text(b": ");
     let mut space = [0u8; 512];
     let room: &mut [u8] = &mut space;
-    wire::put_bytes(room, 0, b"\x14");
+    buffers::put_bytes(room, 0, b"\x14");
     wire::put_string(room, 17, list);
     list_case(room, list.len());
 }
@@ -928,7 +928,7 @@ fn rewrite(out: &mut [u8], payload: &[u8]) -> wire::Written {
 }
 
 fn put_same(a: &[u8], b: &[u8]) {
-    if wire::equal(a, b) {
+    if buffers::equal(a, b) {
         text(b"same");
     } else {
         text(b"different");

@@ -7,7 +7,7 @@ use native.Mathlib.Omega.{arith}
 use lib.ListN.{length, getD, drop, drop-of-length-le}
 use lib.Dec.{eqb, ltb}
 use borrow.Author.Tests.{eqb-true, ltb-false}
-use Rattle.wire.specs.Bytes.{Bytes}
+use Rattle.buffers.specs.Bytes.{Bytes}
 use Rattle.wire.specs.Strings.{strings, walk}
 use Rattle.wire.specs.declared.Walk.{Walk}
 use Rattle.wire.proofs.CauseLaws.{if-none, unless-none}

@@ -10,7 +10,7 @@ use lib.ListN.{length, getD, take, drop}
 use lib.Seq.{drop-cons}
 use lib.Dec.{leb, ltb, eqb}
 use borrow.Author.Tests.{eqb-true, leb-true, ltb-true, eq-eqb, ne-eqb}
-use Rattle.wire.specs.Bytes.{same}
+use Rattle.buffers.specs.Bytes.{same}
 use Rattle.wire.specs.Parts.{part, inside, bytesAt}
 use Rattle.wire.proofs.StringLaws.{and-true}
 use Rattle.wire.proofs.PartLaws.{inside-fits}

@@ -5,7 +5,7 @@ use mathlib.Core.List.{List, [], _∷_, _++_}
 use mathlib.Core.Bool.{Bool, true, false, cond}
 use lib.ListN.{length, take}
 use lib.Dec.{eqb}
-use Rattle.wire.specs.Bytes.{zeros, same}
+use Rattle.buffers.specs.Bytes.{zeros, same}
 use Rattle.methods.specs.Ascii.{ascii}
 use Rattle.methods.specs.declared.KForm.{KForm}
 use Rattle.methods.specs.declared.KForm.the-variants.{Mpint, Digest}

@@ -224,7 +224,7 @@ pub fn number_of(name: &[u8]) -> u8
         let m = method_of(n);
         let bytes = m.name;
         let len = m.name_len;
-        if wire::equal(name, wire::part_of(&bytes, Part { start: 0, len })) {
+        if buffers::equal(name, wire::part_of(&bytes, Part { start: 0, len })) {
             return n;
         }
         n += 1;

@@ -8,9 +8,9 @@ use lib.ListN.{length, getD, drop, length-drop}
 use lib.Seq.{drop-drop}
 use lib.Dec.{ltb, leb, eqb}
 use lib.IntN.{ℤ, pos, negsuc}
-use Rattle.wire.specs.Bytes.{Bytes}
+use Rattle.buffers.specs.Bytes.{Bytes}
 use Rattle.wire.specs.Strings.{whole, readString}
-use Rattle.wire.proofs.ByteLaws.{bytes-tail}
+use Rattle.buffers.proofs.ByteLaws.{bytes-tail}
 use Rattle.wire.proofs.StringLaws.{read-within}
 use Rattle.mpint.specs.Mpint.{excess, shortest, signOf, bodyOf, refusal, readMpint}
 use Rattle.mpint.specs.declared.MpintRead.{MpintRead}

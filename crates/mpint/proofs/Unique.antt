@@ -9,8 +9,8 @@ use lib.IntN.{ℤ, pos, negsuc, _+ℤ_, _*ℤ_}
 use lib.ListN.{length}
 use lib.Dec.{ltb, leb}
 use borrow.Author.Tests.{ltb-false, le-leb, leb-true, leb-false}
-use Rattle.wire.specs.Bytes.{Bytes}
-use Rattle.wire.proofs.ByteLaws.{bytes-tail, bytes-cons}
+use Rattle.buffers.specs.Bytes.{Bytes}
+use Rattle.buffers.proofs.ByteLaws.{bytes-tail, bytes-cons}
 use Rattle.mpint.specs.Mpint.{excess, shortest}
 use Rattle.mpint.specs.Value.{goOn, value}
 use Rattle.mpint.proofs.MpintLaws.{length-shortest, shortest-shortest, shortest-bytes}

@@ -8,8 +8,8 @@ use native.Mathlib.Nat.{zero-add}
 use lib.IntN.{ℤ, pos, negsuc, negℤ, _+ℤ_, _*ℤ_}
 use lib.Dec.{ltb, leb, eqb}
 use borrow.Author.Tests.{eqb-true, ltb-false, leb-true, lt-ltb, le-ltb}
-use Rattle.wire.specs.Bytes.{Bytes}
-use Rattle.wire.proofs.ByteLaws.{bytes-tail}
+use Rattle.buffers.specs.Bytes.{Bytes}
+use Rattle.buffers.proofs.ByteLaws.{bytes-tail}
 use Rattle.mpint.specs.Mpint.{excess, signOf, shortest}
 use Rattle.mpint.specs.Value.{goOn, value, goOnℕ, unsigned, sgn}
 

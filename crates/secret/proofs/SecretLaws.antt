@@ -11,9 +11,9 @@ use lib.Seq.{drop-cons, drop-at}
 use lib.Dec.{ltb, eqb, eqb·suc-zero}
 use lib.IntN.{pos}
 use borrow.Author.Tests.{le-leb, lt-leb, ltb-true, ltb-false, eqb-false, lt-ltb, le-ltb, ne-eqb}
-use Rattle.wire.specs.Bytes.{zeros, over, laid}
+use Rattle.buffers.specs.Bytes.{zeros, over, laid}
 use Rattle.wire.specs.Strings.{bytes32, string}
-use Rattle.wire.proofs.ByteLaws.{over-over, laid-fits, length-over}
+use Rattle.buffers.proofs.ByteLaws.{over-over, laid-fits, length-over}
 use Rattle.wire.proofs.StringLaws.{length-string}
 use Rattle.mpint.specs.Mpint.{excess, shortest, mpint}
 use Rattle.mpint.specs.Value.{value, unsigned}

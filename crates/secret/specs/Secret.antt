@@ -4,7 +4,7 @@ use mathlib.Core.List.{List, [], _∷_, _++_}
 use mathlib.Core.Bool.{cond}
 use lib.ListN.{length}
 use lib.Dec.{leb}
-use Rattle.wire.specs.Bytes.{zeros}
+use Rattle.buffers.specs.Bytes.{zeros}
 use Rattle.wire.specs.Strings.{string}
 use Rattle.mpint.specs.Mpint.{mpint}
 use Rattle.methods.specs.declared.KForm.{KForm}

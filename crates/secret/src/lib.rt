@@ -4,7 +4,7 @@ use methods::KForm;
 ghost use mathlib.Core.Path.{_≡_};
 ghost use mathlib.Core.List.{_∷_, _++_};
 ghost use Prim.Native.Nat.{_≤_};
-ghost use Rattle.wire.specs.Bytes.{zeros};
+ghost use Rattle.buffers.specs.Bytes.{zeros};
 ghost use Rattle.wire.specs.Strings.{string};
 ghost use Rattle.mpint.specs.Mpint.{mpint};
 ghost use Rattle.secret.specs.Secret.{leadingZeros, kBytes, kept};
@@ -48,7 +48,7 @@ fn keep(pad: usize, digits: &[u8]) -> Secret
         };
     }
     wire::put_u32(&mut bytes, 0, n);
-    wire::put_bytes(&mut bytes, 4 + pad, digits);
+    buffers::put_bytes(&mut bytes, 4 + pad, digits);
     Secret {
         number: 0,
         len: 4 + n,

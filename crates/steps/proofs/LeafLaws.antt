@@ -8,11 +8,11 @@ use lib.ListN.{length, set, length-append}
 use lib.Seq.{sets-eq}
 use lib.Dec.{leb}
 use borrow.Author.Tests.{le-leb, lt-leb, eq-eqb, ne-eqb}
-use Rattle.wire.specs.Bytes.{zeros, onto, over, laid}
+use Rattle.buffers.specs.Bytes.{zeros, onto, over, laid}
 use Rattle.wire.specs.Parts.{nothing}
 use Rattle.wire.specs.Strings.{string, strings}
 use Rattle.wire.specs.declared.Part.{Part}
-use Rattle.wire.proofs.ByteLaws.{over-zero, length-over, length-onto, over-over, laid-fits}
+use Rattle.buffers.proofs.ByteLaws.{over-zero, length-over, length-onto, over-over, laid-fits}
 use Rattle.wire.proofs.StringLaws.{length-string}
 use Rattle.messages.proofs.MessageLaws.{length-init, length-reply}
 use Rattle.messages.specs.Messages.{initBytes, replyBytes, fieldPart}

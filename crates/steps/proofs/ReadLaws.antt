@@ -6,8 +6,8 @@ use native.Mathlib.Omega.{arith}
 use lib.ListN.{length}
 use lib.Dec.{ltb}
 use borrow.Author.Tests.{le-leb, ltb-false}
-use Rattle.wire.specs.Bytes.{onto, over, laid}
-use Rattle.wire.proofs.ByteLaws.{laid-fits}
+use Rattle.buffers.specs.Bytes.{onto, over, laid}
+use Rattle.buffers.proofs.ByteLaws.{laid-fits}
 use Rattle.wire.proofs.CauseLaws.{if-none, unless-none}
 use Rattle.messages.proofs.MessageLaws.{length-init}
 use Rattle.methods.specs.Rows.{rowOf}

@@ -6,9 +6,9 @@ use native.Mathlib.Omega.{arith}
 use lib.ListN.{length, take, drop, length-append, length-drop, length-replicate}
 use lib.Seq.{length-take-le}
 use borrow.Author.Tests.{le-leb, eq-eqb, ne-eqb}
-use Rattle.wire.specs.Bytes.{zeros, onto, over, laid}
+use Rattle.buffers.specs.Bytes.{zeros, onto, over, laid}
 use Rattle.wire.specs.Parts.{part, inside, bytesAt}
-use Rattle.wire.proofs.ByteLaws.{laid-fits, over-over, length-over}
+use Rattle.buffers.proofs.ByteLaws.{laid-fits, over-over, length-over}
 use Rattle.wire.proofs.PartLaws.{inside-fits}
 use Rattle.methods.specs.Rows.{rowOf, kMost}
 use Rattle.methods.specs.declared.Method.{Method}

@@ -8,11 +8,11 @@ use lib.ListN.{length, take, drop, length-drop}
 use lib.Seq.{length-take-le}
 use lib.Dec.{ltb}
 use borrow.Author.Tests.{ltb-false, le-leb, ne-eqb}
-use Rattle.wire.specs.Bytes.{onto, laid}
+use Rattle.buffers.specs.Bytes.{onto, laid}
 use Rattle.wire.specs.Causes.{causeIf, causeUnless}
 use Rattle.wire.specs.Parts.{part, inside, bytesAt}
 use Rattle.wire.specs.Strings.{numberAt}
-use Rattle.wire.proofs.ByteLaws.{laid-fits, over-zero}
+use Rattle.buffers.proofs.ByteLaws.{laid-fits, over-zero}
 use Rattle.wire.proofs.CauseLaws.{if-none, unless-none}
 use Rattle.wire.proofs.PartLaws.{inside-fits}
 use Rattle.wire.proofs.StringLaws.{number-at}

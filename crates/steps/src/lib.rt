@@ -11,7 +11,7 @@ ghost use mathlib.Core.Path.{_≡_};
 ghost use mathlib.Core.List.{_++_};
 ghost use Prim.Native.Nat.{_+_, _≤_, _<_};
 ghost use lib.ListN.{length};
-ghost use Rattle.wire.specs.Bytes.{onto};
+ghost use Rattle.buffers.specs.Bytes.{onto};
 ghost use Rattle.messages.specs.Messages.{initBytes, replyBytes};
 ghost use Rattle.transcript.specs.Fields.{field, fieldLength};
 ghost use Rattle.exchange.specs.Record.{ended};
@@ -325,7 +325,7 @@ pub fn take_secret(
             s: s.len(),
         };
         let end = fields_end(lens);
-        wire::put_bytes(room, end, wire::part_of(&bytes, Part { start: 0, len }));
+        buffers::put_bytes(room, end, wire::part_of(&bytes, Part { start: 0, len }));
         let next = Exchange {
             stage: Stage::SecretDone,
             role: e.role,
@@ -341,7 +341,7 @@ pub fn take_secret(
         };
     }
     let end = fields_end(l);
-    wire::put_bytes(room, end, wire::part_of(&bytes, Part { start: 0, len }));
+    buffers::put_bytes(room, end, wire::part_of(&bytes, Part { start: 0, len }));
     let next = Exchange {
         stage: Stage::SecretDone,
         role: e.role,
@@ -421,7 +421,7 @@ pub fn sign(e: Exchange, room: &[u8], signature: &[u8], out: &mut [u8], k_out: &
         },
     );
     put_reply(out, ks, s, signature);
-    wire::put_bytes(k_out, 0, &k);
+    buffers::put_bytes(k_out, 0, &k);
     let size = wire::u32_at(&k, 0) as usize;
     let next = completed(e);
     Step {
@@ -450,7 +450,7 @@ pub fn verdict(
         return refuse(n, e, room);
     }
     let k = e.k;
-    wire::put_bytes(k_out, 0, &k);
+    buffers::put_bytes(k_out, 0, &k);
     let size = wire::u32_at(&k, 0) as usize;
     let next = completed(e);
     Step {

@@ -10,8 +10,8 @@ use lib.Seq.{drop-at, take-take, take-append-le, take-suc, set-at, drop-cons, ge
 use lib.Dec.{leb}
 use borrow.Author.Fill.{fill-more}
 use borrow.Author.Tests.{le-leb, lt-leb, eq-eqb, ne-eqb}
-use Rattle.wire.specs.Bytes.{zeros, over, laid}
-use Rattle.wire.proofs.ByteLaws.{length-over, over-over, laid-fits}
+use Rattle.buffers.specs.Bytes.{zeros, over, laid}
+use Rattle.buffers.proofs.ByteLaws.{length-over, over-over, laid-fits}
 use Rattle.transcript.specs.Fields.{field, fieldLength, around}
 use Rattle.transcript.proofs.RoomLaws.{length-field}
 

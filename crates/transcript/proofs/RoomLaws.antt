@@ -8,7 +8,7 @@ use native.Mathlib.Nat.{add-assoc}
 use lib.ListN.{length, take, drop, length-append, length-drop}
 use lib.Seq.{take-append-seam, drop-append-add, drop-append-seam, drop-drop}
 use lib.Dec.{eqb, eqb·suc-zero}
-use Rattle.wire.specs.Bytes.{onto, over}
+use Rattle.buffers.specs.Bytes.{onto, over}
 use Rattle.wire.specs.Strings.{string}
 use Rattle.wire.proofs.StringLaws.{length-string}
 use Rattle.transcript.specs.Fields.{field, fieldLength}

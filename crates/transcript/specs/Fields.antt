@@ -4,7 +4,7 @@ use mathlib.Core.List.{List, [], _∷_, _++_}
 use mathlib.Core.Bool.{cond}
 use lib.ListN.{length, take, drop}
 use lib.Dec.{leb, eqb}
-use Rattle.wire.specs.Bytes.{over}
+use Rattle.buffers.specs.Bytes.{over}
 use Rattle.wire.specs.Strings.{string}
 
 -- a field's string; nothing where the field is missing

@@ -3,7 +3,7 @@
 ghost use mathlib.Core.Path.{_≡_};
 ghost use Prim.Native.Nat.{_+_, _≤_};
 ghost use lib.ListN.{length, take, drop};
-ghost use Rattle.wire.specs.Bytes.{zeros, over, laid};
+ghost use Rattle.buffers.specs.Bytes.{zeros, over, laid};
 ghost use Rattle.transcript.specs.Fields.{field, fieldLength, around};
 
 // Fills the whole room with zeros.

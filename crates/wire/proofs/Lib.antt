@@ -1,4 +1,3 @@
-pub mod ByteLaws
 pub mod CauseLaws
 pub mod PartLaws
 pub mod StringLaws

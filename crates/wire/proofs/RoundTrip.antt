@@ -8,11 +8,11 @@ use native.Mathlib.Omega.{arith}
 use native.Mathlib.Nat.{add-sub-cancel-left}
 use lib.ListN.{length, getD, take, drop, length-append, length-drop, take-append-drop}
 use lib.Seq.{take-all, take-append-seam, drop-append-seam, length-take-le, take-add}
-use Rattle.wire.specs.Bytes.{Bytes}
+use Rattle.buffers.specs.Bytes.{Bytes}
 use Rattle.wire.specs.Parts.{part, bytesAt}
 use Rattle.wire.specs.Strings.{number32, bytes32, string, whole, readString}
 use Rattle.wire.specs.declared.StringRead.{StringRead}
-use Rattle.wire.proofs.ByteLaws.{tail-part}
+use Rattle.buffers.proofs.ByteLaws.{tail-part}
 use Rattle.wire.proofs.StringLaws.{length-string, whole-within, whole-is, read-found}
 
 -- the four bytes give the number back

@@ -10,12 +10,12 @@ use lib.Seq.{getD-drop}
 use lib.Dec.{ltb, leb}
 use borrow.Author.Tests.{leb-true, le-leb, lt-leb, lt-ltb, le-ltb}
 use Rattle.wire.specs.Parts.{part, nothing}
-use Rattle.wire.specs.Bytes.{laid}
+use Rattle.buffers.specs.Bytes.{laid}
 use Rattle.wire.specs.Strings.{bytes32, number32, numberAt, string, whole, fieldAt, walk, readString, stringCause}
 use Rattle.wire.specs.declared.Field.{Field}
 use Rattle.wire.specs.declared.StringRead.{StringRead}
 use Rattle.wire.specs.declared.Walk.{Walk}
-use Rattle.wire.proofs.ByteLaws.{laid-laid}
+use Rattle.buffers.proofs.ByteLaws.{laid-laid}
 use Rattle.wire.proofs.CauseLaws.{if-holds, if-fails}
 
 -- ---- string

@@ -7,7 +7,7 @@ use native.Mathlib.Omega.{arith}
 use native.Mathlib.Nat.{add-assoc}
 use lib.ListN.{length, getD, take, drop, length-append, length-drop, take-append-drop}
 use lib.Seq.{take-append-seam, drop-append-seam, drop-drop, getD-drop, length-take-le, take-add}
-use Rattle.wire.specs.Bytes.{Bytes}
+use Rattle.buffers.specs.Bytes.{Bytes}
 use Rattle.wire.specs.Parts.{part, bytesAt}
 use Rattle.wire.specs.Strings.{bytes32, number32, string, strings, whole, fieldAt, walk}
 use Rattle.wire.specs.declared.Field.{Field}

@@ -7,7 +7,7 @@ use native.Mathlib.Omega.{arith}
 use lib.ListN.{length}
 use lib.Dec.{eqb}
 use borrow.Author.Tests.{ne-eqb}
-use Rattle.wire.specs.Bytes.{onto}
+use Rattle.buffers.specs.Bytes.{onto}
 use Rattle.wire.specs.Writers.{wrote, leaves}
 use Rattle.wire.specs.declared.Written.{Written}
 

@@ -4,7 +4,7 @@ use mathlib.Core.List.{List}
 use mathlib.Core.Bool.{cond}
 use lib.ListN.{length}
 use lib.Dec.{eqb}
-use Rattle.wire.specs.Bytes.{onto}
+use Rattle.buffers.specs.Bytes.{onto}
 use Rattle.wire.specs.declared.Written.{Written}
 
 -- the number, and how many bytes were written: none on a refusal

@@ -4,7 +4,7 @@ ghost use mathlib.Core.Path.{_≡_};
 ghost use Prim.Native.Nat.{_+_, _*_};
 ghost use lib.ListN.{length};
 ghost use denote.Ref.{ptr};
-ghost use Rattle.wire.specs.Bytes.{same, laid};
+ghost use Rattle.buffers.specs.Bytes.{laid};
 ghost use Rattle.wire.specs.Parts.{inside, bytesAt, placeAt};
 ghost use Rattle.wire.specs.Strings.{bytes32, numberAt, string, fieldAt, walk, readString, stringCause};
 ghost use Rattle.wire.specs.Writers.{wrote, leaves};
@@ -42,23 +42,6 @@ pub struct StringRead {
 pub struct Written {
     pub number: u8,
     pub count: usize,
-}
-
-// Whether two byte strings are the same.
-pub fn equal(a: &[u8], b: &[u8]) -> bool
-    ensures { λ r. ⌜ r ≡ same (now (a .entry)) (now (b .entry)) ⌝ }
-{
-    if a.len() != b.len() {
-        return false;
-    }
-    let mut i = 0;
-    while i < a.len() {
-        if a[i] != b[i] {
-            return false;
-        }
-        i += 1;
-    }
-    true
 }
 
 // The part of s at a place; the empty part at its start where the place passes the end.
@@ -194,23 +177,6 @@ pub fn string_rest(s: &[u8]) -> &[u8]
     part_of(s, p)
 }
 
-// Lays src into out from `at` on, where it fits there; else out stays.
-pub fn put_bytes(out: &mut [u8], at: usize, src: &[u8])
-    ensures { λ _. ⌜ now (out .exit) ≡ laid (now (out .entry)) at (now (src .entry)) ⌝ }
-{
-    if out.len() < at {
-        return;
-    }
-    if out.len() - at < src.len() {
-        return;
-    }
-    let mut i = 0;
-    while i < src.len() {
-        out[at + i] = src[i];
-        i += 1;
-    }
-}
-
 // Lays the four bytes of n into out from `at` on, where they fit there; else out stays.
 pub fn put_u32(out: &mut [u8], at: usize, n: usize)
     ensures { λ _. ⌜ now (out .exit) ≡ laid (now (out .entry)) at (bytes32 n) ⌝ }
@@ -241,7 +207,7 @@ pub fn put_string(out: &mut [u8], at: usize, body: &[u8])
         return;
     }
     put_u32(out, at, body.len());
-    put_bytes(out, at + 4, body);
+    buffers::put_bytes(out, at + 4, body);
 }
 
 // Writes body as a string at the beginning of out.

@@ -5,7 +5,7 @@ use mathlib.Core.List.{List, [], _∷_, _++_, map}
 use native.Mathlib.Omega.{arith}
 use lib.ListN.{length, drop, replicate, length-append}
 use lib.Seq.{drop-append-seam}
-use Rattle.wire.specs.Bytes.{Bytes, zeros}
+use Rattle.buffers.specs.Bytes.{Bytes, zeros}
 use Rattle.wire.specs.Causes.{causeIf, causeUnless, orElse}
 use Rattle.wire.specs.Strings.{number32, string, strings, whole, walk, readString}
 use Rattle.wire.specs.declared.Walk.{Walk}
@@ -14,7 +14,7 @@ use Rattle.wire.proofs.StringLaws.{length-string, whole-no-length}
 use Rattle.wire.proofs.StringsLaws.{walk-strings}
 use Rattle.messages.proofs.MessageLaws.{message-cut}
 use Rattle.exchange.specs.Causes.{secretCause, replyCause}
-use Rattle.wire.proofs.ByteLaws.{bytes-cons}
+use Rattle.buffers.proofs.ByteLaws.{bytes-cons}
 use mathlib.Core.Bool.{Bool, true, false, cond}
 use Rattle.mpint.specs.Mpint.{excess, shortest, readMpint}
 use Rattle.mpint.specs.Value.{value}

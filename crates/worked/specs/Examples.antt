@@ -5,7 +5,7 @@ use mathlib.Core.Path.{_≡_}
 use mathlib.Core.List.{List, [], _∷_, _++_}
 use lib.ListN.{length, take, drop}
 use lib.IntN.{negsuc}
-use Rattle.wire.specs.Bytes.{Bytes, zeros}
+use Rattle.buffers.specs.Bytes.{Bytes, zeros}
 use Rattle.wire.specs.Strings.{string, strings}
 use Rattle.mpint.specs.Mpint.{mpint, readMpint}
 use Rattle.mpint.specs.Value.{value}

@@ -3,7 +3,7 @@ use mathlib.Core.Path.{_≡_, refl, sym, ap, _∙_}
 use lib.ListN.{length}
 use borrow.Author.Tests.{not-true, not-false}
 use denote.Ref.{now}
-use Rattle.wire.specs.Bytes.{same}
+use Rattle.buffers.specs.Bytes.{same}
 use Rattle.names.specs.Cursor.{ahead}
 use Rattle.names.proofs.CursorLaws.{found}
 use Rattle.choice.specs.Common.{has}

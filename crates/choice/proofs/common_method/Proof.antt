@@ -6,7 +6,7 @@ use mathlib.Core.Logic.{⊎-elim}
 use lib.ListN.{length}
 use borrow.Author.Tests.{not-true, not-false}
 use denote.Ref.{now}
-use Rattle.wire.specs.Bytes.{same}
+use Rattle.buffers.specs.Bytes.{same}
 use Rattle.names.specs.Cursor.{ahead}
 use Rattle.names.proofs.CursorLaws.{found, stopped}
 use Rattle.methods.specs.Rows.{numberOf}

@@ -1,7 +1,7 @@
 -- `choice::same_first` meets its contract. Assumes nothing.
 use mathlib.Core.Path.{_∙_}
 use denote.Ref.{now}
-use Rattle.wire.specs.Bytes.{same}
+use Rattle.buffers.specs.Bytes.{same}
 use Rattle.choice.proofs.CommonLaws.{first-read}
 use Rattle.choice.proofs.same_first.Statement.{statement}
 use Rattle.choice.proofs.same_first.Tie as tie

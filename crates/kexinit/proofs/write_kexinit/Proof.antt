@@ -9,7 +9,7 @@ use lib.ListN.{length, set}
 use Rattle.wire.proofs.WriterLaws.{writer-refused, writer-done}
 use Rattle.kexinit.specs.Message.{message, kexinit}
 use Rattle.kexinit.proofs.WriterLaws.{total-two, total-runs, cause-cookie, cause-lists, cause-short, cause-none, length-total, message-laid, laid-length, stored-length}
-use Rattle.wire.specs.Bytes.{laid}
+use Rattle.buffers.specs.Bytes.{laid}
 use Rattle.wire.specs.Strings.{bytes32}
 use Rattle.kexinit.proofs.write_kexinit.Statement.{statement}
 use Rattle.kexinit.proofs.write_kexinit.Tie as tie

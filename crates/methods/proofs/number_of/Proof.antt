@@ -6,7 +6,7 @@ use mathlib.Core.Bool.{Bool, true, false, cond}
 use native.Mathlib.Omega.{arith}
 use lib.ListN.{length, drop}
 use denote.Ref.{now}
-use Rattle.wire.specs.Bytes.{same}
+use Rattle.buffers.specs.Bytes.{same}
 use Rattle.wire.specs.Parts.{part, inside, bytesAt}
 use Rattle.methods.specs.Rows.{rows, nameOf, named, rowOf, numberOf}
 use Rattle.methods.specs.declared.Method.{Method}

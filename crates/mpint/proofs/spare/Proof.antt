@@ -5,7 +5,7 @@ use mathlib.Core.Path.{_≡_, refl, sym, ap, _∙_}
 use native.Mathlib.Omega.{arith}
 use lib.ListN.{length, drop}
 use denote.Ref.{now}
-use Rattle.wire.proofs.ByteLaws.{tail-part}
+use Rattle.buffers.proofs.ByteLaws.{tail-part}
 use Rattle.mpint.specs.Mpint.{excess, shortest}
 use Rattle.mpint.proofs.MpintLaws.{shortest-at, shortest-done}
 use Rattle.mpint.proofs.spare.Statement.{statement}

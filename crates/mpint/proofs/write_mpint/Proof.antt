@@ -7,7 +7,7 @@ use lib.ListN.{length}
 use denote.Ref.{now}
 use Rattle.wire.specs.Strings.{string, stringCause}
 use Rattle.wire.specs.Writers.{wrote, leaves}
-use Rattle.wire.proofs.ByteLaws.{tail-part}
+use Rattle.buffers.proofs.ByteLaws.{tail-part}
 use Rattle.mpint.proofs.write_mpint.Statement.{statement}
 use Rattle.mpint.proofs.write_mpint.Tie as tie
 

@@ -6,7 +6,7 @@ use mathlib.Core.List.{List, _∷_}
 use native.Mathlib.Omega.{arith}
 use denote.Ref.{now}
 use Rattle.wire.specs.Strings.{string}
-use Rattle.wire.proofs.ByteLaws.{tail-part}
+use Rattle.buffers.proofs.ByteLaws.{tail-part}
 use Rattle.secret.specs.Secret.{kept}
 use Rattle.secret.proofs.SecretLaws.{zeros-within, k-zero, k-low, k-high}
 use Rattle.secret.proofs.k_from_x.Statement.{statement}

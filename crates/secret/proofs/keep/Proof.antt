@@ -5,7 +5,7 @@ use mathlib.Core.Path.{ap, _∙_}
 use mathlib.Core.List.{List}
 use native.Mathlib.Omega.{arith}
 use denote.Ref.{now}
-use Rattle.wire.specs.Bytes.{laid}
+use Rattle.buffers.specs.Bytes.{laid}
 use Rattle.secret.proofs.SecretLaws.{kept-no-digits, kept-digits}
 use Rattle.secret.proofs.keep.Statement.{statement}
 use Rattle.secret.proofs.keep.Tie as tie

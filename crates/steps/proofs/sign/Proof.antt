@@ -4,7 +4,7 @@ use mathlib.Core.Path.{_≡_, sym, ap, _∙_}
 use native.Mathlib.Omega.{arith}
 use lib.ListN.{length}
 use denote.Ref.{now}
-use Rattle.wire.specs.Bytes.{onto}
+use Rattle.buffers.specs.Bytes.{onto}
 use Rattle.exchange.specs.Steps.{replyOf}
 use Rattle.exchange.proofs.StepLaws.{output-accepted}
 use Rattle.steps.proofs.SignLaws.{k-laid, k-length, sign-number, sign-refused, sign-known, reply-sized, reply-stands, sign-accepted}

@@ -3,7 +3,7 @@ use borrow.Author.Needs.{needs}
 use mathlib.Core.Path.{sym, ap, _∙_}
 use native.Mathlib.Omega.{arith}
 use denote.Ref.{now}
-use Rattle.wire.specs.Bytes.{laid}
+use Rattle.buffers.specs.Bytes.{laid}
 use Rattle.transcript.proofs.RoomLaws.{field-some}
 use Rattle.transcript.proofs.FieldLaws.{laid-missing}
 use Rattle.transcript.proofs.put_field.Statement.{statement}

@@ -5,7 +5,7 @@ use mathlib.Core.List.{_++_}
 use native.Mathlib.Omega.{arith}
 use lib.ListN.{length, drop, length-set}
 use denote.Ref.{now}
-use Rattle.wire.specs.Bytes.{zeros}
+use Rattle.buffers.specs.Bytes.{zeros}
 use Rattle.transcript.proofs.FieldLaws.{wipe-turn, wiped}
 use Rattle.transcript.proofs.wipe.Statement.{statement}
 use Rattle.transcript.proofs.wipe.Tie as tie

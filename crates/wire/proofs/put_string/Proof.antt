@@ -5,9 +5,9 @@ use mathlib.Core.Path.{_≡_, refl, sym, ap, _∙_}
 use mathlib.Core.List.{List}
 use native.Mathlib.Omega.{arith}
 use denote.Ref.{now}
-use Rattle.wire.specs.Bytes.{laid}
+use Rattle.buffers.specs.Bytes.{laid}
 use Rattle.wire.specs.Strings.{string}
-use Rattle.wire.proofs.ByteLaws.{laid-kept}
+use Rattle.buffers.proofs.ByteLaws.{laid-kept}
 use Rattle.wire.proofs.StringLaws.{length-string, laid-string}
 use Rattle.wire.proofs.put_string.Statement.{statement}
 use Rattle.wire.proofs.put_string.Tie as tie

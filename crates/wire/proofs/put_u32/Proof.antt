@@ -4,7 +4,7 @@ use mathlib.Core.Path.{sym, _∙_}
 use lib.ListN.{length-set}
 use denote.Ref.{now}
 use Rattle.wire.specs.Strings.{bytes32}
-use Rattle.wire.proofs.ByteLaws.{laid-fits, laid-kept, over-four}
+use Rattle.buffers.proofs.ByteLaws.{laid-fits, laid-kept, over-four}
 use Rattle.wire.proofs.put_u32.Statement.{statement}
 use Rattle.wire.proofs.put_u32.Tie as tie
 

@@ -5,7 +5,7 @@ use mathlib.Core.Path.{_≡_, refl, sym, ap, _∙_}
 use lib.ListN.{length}
 use denote.Ref.{now}
 use Rattle.wire.specs.Strings.{string}
-use Rattle.wire.proofs.ByteLaws.{laid-fits, over-zero}
+use Rattle.buffers.proofs.ByteLaws.{laid-fits, over-zero}
 use Rattle.wire.proofs.StringLaws.{length-string, string-long, string-short, string-fits}
 use Rattle.wire.proofs.WriterLaws.{writer-refused, writer-done}
 use Rattle.wire.proofs.write_string.Statement.{statement}

@@ -6,10 +6,10 @@ use lib.ListN.{length, getD, drop, drop-of-length-le}
 use lib.Dec.{eqb}
 use borrow.Author.Tests.{eq-eqb, ne-eqb}
 use denote.Ref.{now}
-use Rattle.wire.specs.Bytes.{same}
-use Rattle.wire.proofs.ByteLaws.{same-at, same-lengths}
-use Rattle.wire.proofs.equal.Statement.{statement}
-use Rattle.wire.proofs.equal.Tie as tie
+use Rattle.buffers.specs.Bytes.{same}
+use Rattle.buffers.proofs.ByteLaws.{same-at, same-lengths}
+use Rattle.buffers.proofs.equal.Statement.{statement}
+use Rattle.buffers.proofs.equal.Tie as tie
 
 abbrev Inv-loop : tie.InvT-loop
 Inv-loop a b i₀ i = (i ≤ length a) × (length a ≡ length b) × (same (drop i a) (drop i b) ≡ same a b)

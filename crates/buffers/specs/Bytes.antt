@@ -1,8 +1,8 @@
 -- Lists of bytes, as a slice holds them: compared, and laid into one another. Assumes nothing.
-use Prim.Native.Nat.{ℕ, _+_, _<_}
+use Prim.Native.Nat.{ℕ, zero, suc, _+_, _<_}
 use mathlib.Core.List.{List, [], _∷_, _++_}
 use mathlib.Core.Bool.{Bool, true, false, cond, _&&_}
-use lib.ListN.{length, getD, take, drop, replicate}
+use lib.ListN.{length, getD, set, take, drop, replicate}
 use lib.Dec.{leb, eqb}
 
 -- every element is a byte
@@ -31,3 +31,12 @@ over l at b = take at l ++ b ++ drop (at + length b) l
 -- the same where b fits there, else l
 unfoldable pub laid : List ℕ → ℕ → List ℕ → List ℕ
 laid l at b = cond (leb (at + length b) (length l)) (over l at b) l
+
+-- n bytes of s from i + k on, stored one by one into l, as far behind `at`
+abbrev pub stored : ℕ → List ℕ → ℕ → ℕ → ℕ → List ℕ → List ℕ
+stored at s i k zero l = l
+stored at s i k (suc n) l = stored at s i (suc k) n (set l (at + (i + k)) (getD s (i + k) 0))
+
+-- eight bytes of s from i on
+abbrev pub eight : ℕ → List ℕ → ℕ → List ℕ → List ℕ
+eight at s i l = stored at s i 1 7 (set l (at + i) (getD s i 0))

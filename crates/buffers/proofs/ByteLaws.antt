@@ -7,10 +7,10 @@ use native.Mathlib.Omega.{arith}
 use native.Mathlib.Nat.{add-assoc, zero-add}
 use native.Mathlib.Numerals.{add-one}
 use lib.ListN.{length, getD, take, drop, set, length-append, length-drop}
-use lib.Seq.{sets-eq, paste, take-all, take-length, length-take-le, take-at, drop-append-add, drop-drop, drop-cons}
+use lib.Seq.{sets-eq, paste, paste-suc, take-all, take-length, length-take-le, take-at, drop-append-add, drop-drop, drop-cons}
 use lib.Dec.{leb, eqb}
 use borrow.Author.Tests.{le-leb, lt-leb, eqb-true, eq-eqb}
-use Rattle.wire.specs.Bytes.{Bytes, same, onto, over, laid}
+use Rattle.buffers.specs.Bytes.{Bytes, same, onto, over, laid, stored, eight}
 
 -- the part `&s[k..]`, as the slice rule states it
 pub tail-part : (s : List ℕ) (k : ℕ) → take (length s - k) (drop k s) ≡ drop k s
@@ -98,6 +98,36 @@ unfolding over
 over-paste l at s = rw (take-length s)
 
 -- ---- onto
+
+-- bytes stored one by one behind those that are laid already
+stored-paste : (d : List ℕ) (at : ℕ) (s : List ℕ) (i k n : ℕ) → at + (i + (k + n)) ≤ length d → i + (k + n) ≤ length s
+    → stored at s i k n (paste d at s (i + k)) ≡ paste d at s (i + (k + n))
+stored-paste d at s i k zero h g = let e : i + k ≡ i + (k + 0) = omega arith in ap (paste d at s) e
+stored-paste d at s i k (suc n) h g =
+    let a : at + (i + k) < length d = omega arith in
+    let b : i + k < length s = omega arith in
+    let e : suc (i + k) ≡ i + suc k = omega arith in
+    let f : i + (suc k + n) ≡ i + (k + suc n) = omega arith in
+    ap (stored at s i (suc k) n) (paste-suc d at s (i + k) 0 a b ∙ ap (paste d at s) e)
+    ∙ stored-paste d at s i (suc k) n (omega arith) (omega arith)
+    ∙ ap (paste d at s) f
+
+eight-paste : (d : List ℕ) (at : ℕ) (s : List ℕ) (i : ℕ) → at + (i + 8) ≤ length d → i + 8 ≤ length s
+    → eight at s i (paste d at s i) ≡ paste d at s (i + 8)
+eight-paste d at s i h g =
+    let a : at + i < length d = omega arith in
+    let b : i < length s = omega arith in
+    let e : suc i ≡ i + 1 = omega arith in
+    ap (stored at s i 1 7) (paste-suc d at s i 0 a b ∙ ap (paste d at s) e)
+    ∙ stored-paste d at s i 1 7 h g
+
+pub sixteen-paste : (d : List ℕ) (at : ℕ) (s : List ℕ) (i : ℕ) → at + (i + 16) ≤ length d → i + 16 ≤ length s
+    → eight at s (i + 8) (eight at s i (paste d at s i)) ≡ paste d at s (i + 16)
+sixteen-paste d at s i h g =
+    let e : i + 8 + 8 ≡ i + 16 = omega arith in
+    ap (eight at s (i + 8)) (eight-paste d at s i (omega arith) (omega arith))
+    ∙ eight-paste d at s (i + 8) (omega arith) (omega arith)
+    ∙ ap (paste d at s) e
 
 pub length-onto : (l b : List ℕ) → length b ≤ length l → length (onto l b) ≡ length l
 unfolding onto
