@@ -1,5 +1,5 @@
 # Two commands for a newcomer: `make demo` runs what there is, `make test` is the gate. `make lib` leaves the static library in build/.
-.PHONY: demo test vectors lib bench host host-test soak
+.PHONY: demo test vectors needs lib bench dock host host-test soak measure
 
 WARN = -Wall -Wextra -Werror -pedantic -O2 -Iinclude
 CARGO = cargo --offline --quiet
@@ -8,10 +8,8 @@ RUST = build/cargo/release
 LIB = build/libcastulfrisa.a
 SEED = 20261115
 
-demo:
-	@rt check exchange_run > /dev/null || { echo "demo: the check failed; run 'rt check exchange_run'"; exit 1; }
-	@echo "Proved, built and run: every captured exchange through its steps (number, counts, what was compared)."
-	@cd crates/exchange_run/data && ../../../target/bin/exchange_run
+demo: dock
+	@python3 tests/live/demo.py --dock build/dock
 
 # The layout and the vectors first, then the library and its hosts, then the proofs from nothing, the must-fail edits and the programs.
 test: vectors
@@ -31,15 +29,25 @@ vectors:
 # The static library: proved first (some three minutes from nothing), and left alone where it did not change.
 lib:
 	@mkdir -p build
+	@echo "lib: the library, proved before it is built (some three minutes from nothing)"
 	@rt staticlib boundary > build/staticlib.log 2>&1 || { tail -40 build/staticlib.log; echo "lib: not proved, see build/staticlib.log"; exit 1; }
 	@cmp -s target/staticlib/libboundary.a $(LIB) || cp target/staticlib/libboundary.a $(LIB)
+
+# What a host on OpenSSL and its tests need of Debian's packages, installed where it is missing.
+PACKAGES = libssl-dev openssh-client openssh-server
+needs:
+	@dpkg -s $(PACKAGES) > /dev/null 2>&1 || DEBIAN_FRONTEND=noninteractive apt-get install -y -qq $(PACKAGES) > /dev/null || \
+	{ apt-get update -qq && DEBIAN_FRONTEND=noninteractive apt-get install -y -qq $(PACKAGES) > /dev/null; }
 
 bench: lib
 	gcc -std=c11 $(WARN) host/bench.c $(LIB) -o build/bench
 
+dock: lib needs
+	gcc -std=c11 $(WARN) host/dock/*.c $(LIB) -lcrypto -o build/dock
+
 # The C programs, plain and under the sanitizers, and the Rust side.
 SAN = -fsanitize=address,undefined -fno-sanitize-recover=all -g
-host: bench
+host: bench dock
 	@mkdir -p build/host
 	gcc -std=c11 $(WARN) tests/header_test.c $(LIB) -o build/host/header_c
 	g++ -std=c++17 $(WARN) -x c++ tests/header_test.c -x none $(LIB) -o build/host/header_cc
@@ -47,6 +55,7 @@ host: bench
 	gcc -std=c11 $(WARN) $(SAN) tests/header_test.c $(LIB) -o build/host/header_san
 	gcc -std=c99 $(WARN) $(SAN) host/example.c $(LIB) -o build/host/example_san
 	gcc -std=c11 $(WARN) $(SAN) host/bench.c $(LIB) -o build/host/bench_san
+	gcc -std=c11 $(WARN) $(SAN) host/dock/*.c $(LIB) -lcrypto -o build/host/dock_san
 	cd host && $(CARGO) build --release && $(CARGO) build --release --examples
 
 # The compiled library: its header, its hosts, and every answer against the plain implementation of document 01.
@@ -63,7 +72,13 @@ host-test: host
 	build/bench < build/host/script > build/host/ours && cmp build/host/ours build/host/answers
 	build/host/bench_san < build/host/script > build/host/ours && cmp build/host/ours build/host/answers
 	@echo "bench: $$(wc -l < build/host/answers) answers as the plain implementation gives them, also under the sanitizers"
+	python3 tests/live/live.py --dock build/dock --dock-asan build/host/dock_san
 
-# A longer run, with another seed each time.
+# Longer runs: exchanges with a real sshd, and the library against the plain implementation, with another seed each time.
 soak: host
+	python3 tests/live/soak.py --dock build/dock --count 2000
 	$(RUST)/differ --seed $$(date +%s) --lists 20000000 --rounds 4000000 --progress
+
+# docs/MEASUREMENTS.md has what this printed.
+measure: host
+	python3 tests/measure.py $(LIB) $(RUST)/timing

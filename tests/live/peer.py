@@ -1,5 +1,7 @@
 """A small SSH peer for the tests, written from the RFCs and sharing nothing with the core: version lines, packets in the clear,
-KEXINIT, INIT and REPLY of the curve25519 methods, X25519 (RFC 7748), Ed25519 (RFC 8032) and H."""
+KEXINIT, INIT and REPLY of the curve25519 methods, X25519 (RFC 7748), H, and host keys that sign: Ed25519 (RFC 8032), ECDSA with P-256
+(FIPS 186), RSA (RFC 8017)."""
+import base64
 import hashlib
 import socket
 import struct
@@ -17,6 +19,11 @@ def string(b):
 def unsigned_mpint(big_endian):
     body = big_endian.lstrip(b"\0")
     return string(b"\0" + body if body and body[0] & 0x80 else body)
+
+
+def number(n):
+    """A number of 0 or above as an mpint."""
+    return unsigned_mpint(n.to_bytes((n.bit_length() + 7) // 8, "big"))
 
 
 def take_string(b):
@@ -225,6 +232,90 @@ def ed25519_holds(blob, signature, message):
     s = int.from_bytes(body[32:], "little")
     k = _hash_number(body[:32], public, message)
     return _encode(_add(_times_base(s), _times(k, (P - a[0], a[1], 1, P - a[3])))) == body[:32]
+
+
+# ---- ECDSA with P-256, points as (x, y) or None
+
+EP = 2**256 - 2**224 + 2**192 + 2**96 - 1
+EN = 0xffffffff00000000ffffffffffffffffbce6faada7179e84f3b9cac2fc632551
+G = (0x6b17d1f2e12c4247f8bce6e563a440f277037d812deb33a0f4a13945d898c296,
+     0x4fe342e2fe1a7f9b8ee7eb4a7c0f9e162bce33576b315ececbb6406837bf51f5)
+
+
+def _sum(p, q):
+    if p is None or q is None:
+        return p or q
+    if p[0] == q[0] and (p[1] + q[1]) % EP == 0:
+        return None
+    slope = (3 * p[0] * p[0] - 3) * pow(2 * p[1], -1, EP) if p == q else (q[1] - p[1]) * pow(q[0] - p[0], -1, EP)
+    x = (slope * slope - p[0] - q[0]) % EP
+    return x, (slope * (p[0] - x) - p[1]) % EP
+
+
+def _multiple(n, p):
+    q = None
+    while n:
+        if n & 1:
+            q = _sum(q, p)
+        p, n = _sum(p, p), n >> 1
+    return q
+
+
+class Ecdsa:
+    name, curve = b"ecdsa-sha2-nistp256", b"nistp256"
+
+    def __init__(self, seed):
+        self.d = int.from_bytes(hashlib.sha256(seed).digest(), "big") % EN
+        x, y = _multiple(self.d, G)
+        self.point = b"\4" + x.to_bytes(32, "big") + y.to_bytes(32, "big")
+        self.compressed = bytes([2 + y % 2]) + x.to_bytes(32, "big")
+        self.blob = string(self.name) + string(self.curve) + string(self.point)
+
+    def numbers(self, message):
+        """r and s; r has its top bit set, so that its sign matters."""
+        digest, r, tries = hashlib.sha256(message).digest(), 0, 0
+        while r < 2**255:
+            k = int.from_bytes(hashlib.sha256(digest + bytes([tries])).digest(), "big") % EN
+            r, tries = _multiple(k, G)[0] % EN, tries + 1
+        return r, pow(k, -1, EN) * (int.from_bytes(digest, "big") + r * self.d) % EN
+
+    def sign(self, message):
+        r, s = self.numbers(message)
+        return string(self.name) + string(number(r) + number(s))
+
+
+# ---- RSA
+
+DIGEST_INFO = {"sha1": "3021300906052b0e03021a05000414", "sha256": "3031300d060960864801650304020105000420",
+               "sha512": "3051300d060960864801650304020305000440"}
+
+
+class Rsa:
+    def __init__(self, path):
+        """The key of a file in OpenSSH's form."""
+        with open(path) as f:
+            rest = base64.b64decode("".join(f.read().split("\n")[1:-2]))[len(b"openssh-key-v1\0"):]
+        for _ in range(3):
+            _, rest = take_string(rest)
+        _, rest = take_string(rest[4:])
+        rest = take_string(take_string(rest)[0][8:])[1]
+        parts = []
+        for _ in range(6):
+            part, rest = take_string(rest)
+            parts.append(int.from_bytes(part, "big"))
+        self.n, self.e, _, self.inverse, self.p, self.q = parts
+        self.d = parts[2]
+        self.size = (self.n.bit_length() + 7) // 8
+        self.blob = string(b"ssh-rsa") + number(self.e) + number(self.n)
+
+    def body(self, message, digest):
+        end = bytes.fromhex(DIGEST_INFO[digest]) + hashlib.new(digest, message).digest()
+        m = int.from_bytes(b"\0\1" + b"\xff" * (self.size - 3 - len(end)) + b"\0" + end, "big")
+        a, b = pow(m, self.d % (self.p - 1), self.p), pow(m, self.d % (self.q - 1), self.q)
+        return ((a - b) * self.inverse % self.p * self.q + b).to_bytes(self.size, "big")
+
+    def sign(self, message):
+        return string(b"rsa-sha2-256") + string(self.body(message, "sha256"))
 
 
 # ---- H of the curve25519 methods

@@ -1,0 +1,180 @@
+/* dock: one SSH key exchange over a socket, as client or as server. The core (castulfrisa.h) reads and writes the messages and
+   builds the hash input; libcrypto does curves, digests and signatures; here are the sockets, packets and files around them. */
+#ifndef DOCK_H
+#define DOCK_H
+
+#define _POSIX_C_SOURCE 200809L
+
+#include "castulfrisa.h"
+#include <openssl/evp.h>
+#include <stdbool.h>
+#include <stddef.h>
+#include <stdint.h>
+#include <stdio.h>
+
+typedef struct { const uint8_t *at; size_t len; } span; /* bytes that someone else keeps */
+
+/* RFC 4250, 4.1.2 */
+enum message {
+    MESSAGE_DISCONNECT = 1,
+    MESSAGE_IGNORE = 2,
+    MESSAGE_UNIMPLEMENTED = 3,
+    MESSAGE_DEBUG = 4,
+    MESSAGE_KEXINIT = 20,
+    MESSAGE_NEWKEYS = 21
+};
+
+#define KEY_EXCHANGE_FAILED 3 /* the reason of every DISCONNECT that goes out */
+
+/* ---- report.c: what is printed */
+
+/* One line on standard error, whatever bytes the text holds. Always false, so that a caller can return it. */
+bool trouble(const char *format, ...);
+
+/* The cause that document 01 and the header give a number. */
+const char *cause(uint8_t number);
+
+/* With on, a line of --show: direction ("->", "<-" or ""), what, and each of length, number and room unless it is -1. */
+void show(bool on, const char *direction, const char *what, long length, int number, long room);
+
+/* "name hex", a line of standard output. */
+void print_hex(const char *name, const uint8_t *bytes, size_t len);
+
+/* ---- link.c: one connection, its version lines and its packets in the clear */
+
+#define PACKET_MOST 35000 /* RFC 4253, 6.1 */
+
+struct link {
+    int fd;
+    int timeout; /* seconds that a connection may take */
+    long long deadline;
+    bool show;
+    bool sealed; /* own NEWKEYS went out: nothing more may go out in the clear */
+    uint8_t in[PACKET_MOST];
+    size_t begin, end; /* what has come in and is not used up */
+    size_t packet;     /* length of the packet that the last payload is a part of */
+};
+
+bool link_connect(struct link *l, const char *host, const char *port, int timeout);
+bool link_listen(int *listener, uint16_t *port);
+bool link_accept(struct link *l, int listener, int timeout);
+
+/* The time that the connection may take begins anew. */
+void link_restart_clock(struct link *l);
+
+bool link_send_version(struct link *l, const char *v);
+
+/* The peer's version line without its end. A server may send other lines ahead of it, a client may not. */
+bool link_read_version(struct link *l, bool from_server, uint8_t v[CASTULFRISA_V_MOST], size_t *v_len);
+
+bool link_send(struct link *l, const uint8_t *payload, size_t len);
+
+/* The payload of the next packet that is not IGNORE, DEBUG or UNIMPLEMENTED, until the next call; DISCONNECT is a failure. */
+bool link_receive(struct link *l, span *payload);
+
+/* Like trouble, and tells the peer by DISCONNECT, after which nothing more goes out. */
+bool peer_fault(struct link *l, const char *format, ...);
+
+void link_close(struct link *l);
+
+/* ---- primitives.c: ephemeral keys, X and digests of methods 1 to 6 */
+
+const char *method_name(uint8_t method); /* NULL for a method that is not made here */
+
+/* A new key pair; its public value as it goes on the wire. */
+bool draw_ephemeral(uint8_t method, EVP_PKEY **own, uint8_t c[CASTULFRISA_VALUE_MOST]);
+
+/* The peer's public value; NULL for one that is no point of the curve. */
+EVP_PKEY *peer_public(EVP_PKEY *own, span value);
+
+/* X at its full length; false where the primitive fails. */
+bool derive_x(uint8_t method, EVP_PKEY *own, EVP_PKEY *peer, uint8_t x[CASTULFRISA_X_MOST]);
+
+bool exchange_hash(uint8_t method, const uint8_t *input, size_t len, uint8_t h[CASTULFRISA_DIGEST_MOST]);
+
+/* Clears the stack below the caller: records cross the boundary by value, and an exchange's calls leave copies of K there. */
+void wipe_stack(void);
+
+/* ---- hostkey.c: host keys and their signatures over H */
+
+enum key_kind { KEY_ED25519, KEY_ECDSA, KEY_RSA };
+
+struct scheme {
+    const char *name;     /* in the host key lists and in the signature */
+    const char *key_type; /* in the host key blob */
+    enum key_kind kind;
+    const char *curve;  /* in the blob of an ECDSA key */
+    const char *group;  /* libcrypto's name for it */
+    const char *digest; /* none for Ed25519, which has its own */
+};
+
+extern const struct scheme schemes[];
+extern const size_t scheme_count;
+
+struct host_key {
+    EVP_PKEY *key;
+    const char *type;
+    uint8_t blob[CASTULFRISA_BLOB_MOST];
+    size_t blob_len;
+};
+
+const struct scheme *scheme_named(const uint8_t *name, size_t len);
+
+bool span_is(span s, const char *text);
+
+/* Parts of a blob, taken from its front. */
+bool take_string(span *rest, span *body);
+bool take_positive(span *rest, span *body); /* an mpint above 0 */
+
+/* Keys from their parts; with an empty d, or seed, a public one. NULL where libcrypto refuses. */
+EVP_PKEY *ed25519_key(span public_key, span seed);
+EVP_PKEY *ecdsa_key(const char *group, span point, span d);
+EVP_PKEY *rsa_key(span n, span e, span d);
+
+bool signature_holds(const struct scheme *s, span host_key, span signature, const uint8_t *h, size_t h_len);
+bool sign_hash(const struct host_key *k, const struct scheme *s, const uint8_t *h, size_t h_len, uint8_t *out, size_t *out_len);
+
+/* Fills type and blob from the key; false for a key of no type above. */
+bool describe_host_key(struct host_key *k);
+
+/* ---- keyfile.c: private host keys */
+
+/* A private key in PEM or in OpenSSH's own form, without a passphrase. */
+bool load_host_key(const char *path, struct host_key *k);
+
+/* ---- known.c: known hosts and fingerprints */
+
+#define FINGERPRINT 64
+
+enum known { KNOWN_NOT_ASKED, KNOWN_YES, KNOWN_MISSING, KNOWN_DIFFERS };
+
+enum known known_host(FILE *file, const char *host, const char *port, const char *type, span host_key);
+
+/* "SHA256:" and the base64 of the digest, as ssh-keygen -l prints it. */
+bool fingerprint(span host_key, char out[FINGERPRINT]);
+
+/* ---- kex.c: the exchange */
+
+#define HOST_KEYS_MOST 8
+#define X_BEGINS_MOST 2
+
+struct settings {
+    const char *methods;   /* name-lists for the own KEXINIT */
+    const char *host_keys; /* a server's come from its keys */
+    bool show;
+    int timeout;
+
+    const char *host, *port; /* client */
+    FILE *known_hosts;       /* NULL: not asked */
+
+    const struct host_key *keys; /* server */
+    size_t key_count;
+    uint8_t x_begins[X_BEGINS_MOST]; /* the ephemeral key is drawn until X begins so */
+    size_t x_begins_len;
+};
+
+/* One exchange; the results on standard output, or false after a line on standard error. */
+bool exchange_as_client(const struct settings *set);
+bool exchange_as_server(const struct settings *set, int listener);
+
+#endif

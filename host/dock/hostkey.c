@@ -1,0 +1,313 @@
+/* Host keys and their signatures over H: RFC 8709 (ssh-ed25519), RFC 5656 (ecdsa-sha2-*), RFC 4253 and 8332 (rsa-sha2-*). */
+#include "dock.h"
+#include <openssl/bn.h>
+#include <openssl/core_names.h>
+#include <openssl/crypto.h>
+#include <openssl/ec.h>
+#include <openssl/ecdsa.h>
+#include <openssl/objects.h>
+#include <openssl/param_build.h>
+#include <string.h>
+
+#define RSA_BITS_LEAST 2048
+#define RSA_BYTES_MOST 2048 /* no longer number fits a blob */
+
+const struct scheme schemes[] = {
+    {"ssh-ed25519", "ssh-ed25519", KEY_ED25519, NULL, NULL, NULL},
+    {"ecdsa-sha2-nistp256", "ecdsa-sha2-nistp256", KEY_ECDSA, "nistp256", "prime256v1", "SHA256"},
+    {"ecdsa-sha2-nistp384", "ecdsa-sha2-nistp384", KEY_ECDSA, "nistp384", "secp384r1", "SHA384"},
+    {"ecdsa-sha2-nistp521", "ecdsa-sha2-nistp521", KEY_ECDSA, "nistp521", "secp521r1", "SHA512"},
+    {"rsa-sha2-512", "ssh-rsa", KEY_RSA, NULL, NULL, "SHA512"},
+    {"rsa-sha2-256", "ssh-rsa", KEY_RSA, NULL, NULL, "SHA256"},
+};
+const size_t scheme_count = sizeof schemes / sizeof schemes[0];
+
+bool span_is(span s, const char *text) { return s.len == strlen(text) && memcmp(s.at, text, s.len) == 0; }
+
+const struct scheme *scheme_named(const uint8_t *name, size_t len)
+{
+    for (size_t i = 0; i < scheme_count; i++)
+        if (span_is((span){name, len}, schemes[i].name)) return &schemes[i];
+    return NULL;
+}
+
+/* ---- parts of blobs */
+
+bool take_string(span *rest, span *body)
+{
+    castulfrisa_string_read r = castulfrisa_read_string(rest->at, rest->len);
+    if (r.number != CASTULFRISA_OK) return false;
+    *body = (span){rest->at + r.body.start, r.body.len};
+    *rest = (span){rest->at + r.rest.start, r.rest.len};
+    return true;
+}
+
+bool take_positive(span *rest, span *body)
+{
+    castulfrisa_mpint_read r = castulfrisa_read_mpint(rest->at, rest->len);
+    if (r.number != CASTULFRISA_OK || r.sign != 1) return false;
+    *body = (span){rest->at + r.body.start, r.body.len};
+    *rest = (span){rest->at + r.rest.start, r.rest.len};
+    return true;
+}
+
+struct blob { uint8_t *at; size_t room, len; bool short_of_room; };
+
+static void put_string(struct blob *b, const void *bytes, size_t len)
+{
+    castulfrisa_written w = castulfrisa_write_string(b->at + b->len, b->room - b->len, bytes, len);
+    b->len += w.count;
+    b->short_of_room |= w.number != CASTULFRISA_OK;
+}
+
+static void put_text(struct blob *b, const char *text) { put_string(b, text, strlen(text)); }
+
+static void put_number(struct blob *b, const BIGNUM *n)
+{
+    uint8_t bytes[1 + RSA_BYTES_MOST] = {0}; /* the leading 0 is the sign; the writer shortens */
+    int len = BN_num_bytes(n);
+    if (len > RSA_BYTES_MOST) {
+        b->short_of_room = true;
+        return;
+    }
+    BN_bn2bin(n, bytes + 1);
+    castulfrisa_written w = castulfrisa_write_mpint(b->at + b->len, b->room - b->len, bytes, 1 + (size_t)len);
+    b->len += w.count;
+    b->short_of_room |= w.number != CASTULFRISA_OK;
+}
+
+/* ---- keys from their parts */
+
+EVP_PKEY *ed25519_key(span public_key, span seed)
+{
+    if (seed.len > 0) return EVP_PKEY_new_raw_private_key_ex(NULL, "ED25519", NULL, seed.at, seed.len);
+    return EVP_PKEY_new_raw_public_key_ex(NULL, "ED25519", NULL, public_key.at, public_key.len);
+}
+
+/* A secure BIGNUM makes its copies be cleared too. */
+static BIGNUM *number(span bytes)
+{
+    BIGNUM *n = BN_secure_new();
+    if (n != NULL && BN_bin2bn(bytes.at, (int)bytes.len, n) == NULL) {
+        BN_clear_free(n);
+        n = NULL;
+    }
+    return n;
+}
+
+static EVP_PKEY *key_of(const char *type, OSSL_PARAM_BLD *parts, bool private_too)
+{
+    EVP_PKEY_CTX *context = EVP_PKEY_CTX_new_from_name(NULL, type, NULL);
+    OSSL_PARAM *parameters = OSSL_PARAM_BLD_to_param(parts);
+    EVP_PKEY *key = NULL;
+    if (context == NULL || parameters == NULL || EVP_PKEY_fromdata_init(context) <= 0
+        || EVP_PKEY_fromdata(context, &key, private_too ? EVP_PKEY_KEYPAIR : EVP_PKEY_PUBLIC_KEY, parameters) <= 0)
+        key = NULL;
+    OSSL_PARAM_free(parameters);
+    EVP_PKEY_CTX_free(context);
+    return key;
+}
+
+EVP_PKEY *ecdsa_key(const char *group, span point, span d)
+{
+    OSSL_PARAM_BLD *parts = OSSL_PARAM_BLD_new();
+    BIGNUM *secret = number(d);
+    EVP_PKEY *key = NULL;
+    if (parts != NULL && secret != NULL && OSSL_PARAM_BLD_push_utf8_string(parts, OSSL_PKEY_PARAM_GROUP_NAME, group, 0)
+        && OSSL_PARAM_BLD_push_octet_string(parts, OSSL_PKEY_PARAM_PUB_KEY, point.at, point.len)
+        && (d.len == 0 || OSSL_PARAM_BLD_push_BN(parts, OSSL_PKEY_PARAM_PRIV_KEY, secret)))
+        key = key_of("EC", parts, d.len > 0);
+    BN_clear_free(secret);
+    OSSL_PARAM_BLD_free(parts);
+    return key;
+}
+
+EVP_PKEY *rsa_key(span n, span e, span d)
+{
+    OSSL_PARAM_BLD *parts = OSSL_PARAM_BLD_new();
+    BIGNUM *modulus = number(n), *exponent = number(e), *secret = number(d);
+    EVP_PKEY *key = NULL;
+    if (parts != NULL && modulus != NULL && exponent != NULL && secret != NULL
+        && OSSL_PARAM_BLD_push_BN(parts, OSSL_PKEY_PARAM_RSA_N, modulus)
+        && OSSL_PARAM_BLD_push_BN(parts, OSSL_PKEY_PARAM_RSA_E, exponent)
+        && (d.len == 0 || OSSL_PARAM_BLD_push_BN(parts, OSSL_PKEY_PARAM_RSA_D, secret)))
+        key = key_of("RSA", parts, d.len > 0);
+    BN_clear_free(modulus);
+    BN_clear_free(exponent);
+    BN_clear_free(secret);
+    OSSL_PARAM_BLD_free(parts);
+    return key;
+}
+
+/* The public key of a blob that must be of the scheme's type, and nothing behind it. */
+static EVP_PKEY *read_host_key(const struct scheme *s, span blob)
+{
+    const span none = {NULL, 0};
+    span type, curve, value, e, n;
+    if (!take_string(&blob, &type) || !span_is(type, s->key_type)) return NULL;
+    switch (s->kind) {
+    case KEY_ED25519:
+        if (!take_string(&blob, &value) || blob.len != 0) return NULL;
+        return ed25519_key(value, none);
+    case KEY_ECDSA:
+        if (!take_string(&blob, &curve) || !span_is(curve, s->curve) || !take_string(&blob, &value) || blob.len != 0) return NULL;
+        if (value.len == 0 || value.at[0] != 4) return NULL; /* libcrypto would take other forms of a point too, and infinity */
+        return ecdsa_key(s->group, value, none);
+    case KEY_RSA:
+        if (!take_positive(&blob, &e) || !take_positive(&blob, &n) || blob.len != 0) return NULL;
+        return rsa_key(n, e, none);
+    }
+    return NULL;
+}
+
+/* ---- signatures */
+
+static bool verified(EVP_PKEY *key, const char *digest, span signature, const uint8_t *h, size_t h_len)
+{
+    EVP_MD_CTX *context = EVP_MD_CTX_new();
+    bool good = context != NULL && EVP_DigestVerifyInit_ex(context, NULL, digest, NULL, NULL, key, NULL) > 0
+        && EVP_DigestVerify(context, signature.at, signature.len, h, h_len) == 1;
+    EVP_MD_CTX_free(context);
+    return good;
+}
+
+/* The body is mpint r, mpint s (RFC 5656, 3.1.2); libcrypto wants them in DER. */
+static bool ecdsa_verified(EVP_PKEY *key, const char *digest, span body, const uint8_t *h, size_t h_len)
+{
+    span r_bytes, s_bytes;
+    if (!take_positive(&body, &r_bytes) || !take_positive(&body, &s_bytes) || body.len != 0) return false;
+    ECDSA_SIG *pair = ECDSA_SIG_new();
+    BIGNUM *r = number(r_bytes), *s = number(s_bytes);
+    uint8_t *der = NULL;
+    bool good = false;
+    if (pair != NULL && r != NULL && s != NULL && ECDSA_SIG_set0(pair, r, s)) {
+        r = s = NULL; /* the pair's now */
+        int len = i2d_ECDSA_SIG(pair, &der);
+        good = len > 0 && verified(key, digest, (span){der, (size_t)len}, h, h_len);
+    }
+    BN_free(r);
+    BN_free(s);
+    ECDSA_SIG_free(pair);
+    OPENSSL_free(der);
+    return good;
+}
+
+/* The body is a number without leading zeros in some programs (RFC 4253, 6.6); libcrypto wants the modulus's length. */
+static bool rsa_verified(EVP_PKEY *key, const char *digest, span body, const uint8_t *h, size_t h_len)
+{
+    uint8_t full[RSA_BYTES_MOST] = {0};
+    size_t size = (size_t)EVP_PKEY_get_size(key);
+    if (EVP_PKEY_get_bits(key) < RSA_BITS_LEAST || size > sizeof full || body.len > size) return false;
+    memcpy(full + size - body.len, body.at, body.len);
+    return verified(key, digest, (span){full, size}, h, h_len);
+}
+
+bool signature_holds(const struct scheme *s, span host_key, span signature, const uint8_t *h, size_t h_len)
+{
+    span name, body;
+    if (!take_string(&signature, &name) || !span_is(name, s->name) || !take_string(&signature, &body) || signature.len != 0)
+        return false;
+    EVP_PKEY *key = read_host_key(s, host_key);
+    bool good = false;
+    if (key != NULL)
+        switch (s->kind) {
+        case KEY_ED25519: good = verified(key, s->digest, body, h, h_len); break;
+        case KEY_ECDSA: good = ecdsa_verified(key, s->digest, body, h, h_len); break;
+        case KEY_RSA: good = rsa_verified(key, s->digest, body, h, h_len); break;
+        }
+    EVP_PKEY_free(key);
+    return good;
+}
+
+bool sign_hash(const struct host_key *k, const struct scheme *s, const uint8_t *h, size_t h_len, uint8_t *out, size_t *out_len)
+{
+    uint8_t raw[CASTULFRISA_BLOB_MOST], pair[CASTULFRISA_BLOB_MOST];
+    size_t raw_len = sizeof raw;
+    struct blob signature = {out, CASTULFRISA_BLOB_MOST, 0, false}, numbers = {pair, sizeof pair, 0, false};
+    EVP_MD_CTX *context = EVP_MD_CTX_new();
+    bool made = context != NULL && EVP_DigestSignInit_ex(context, NULL, s->digest, NULL, NULL, k->key, NULL) > 0
+        && EVP_DigestSign(context, raw, &raw_len, h, h_len) > 0;
+    EVP_MD_CTX_free(context);
+    if (!made) return false;
+
+    put_text(&signature, s->name);
+    if (s->kind == KEY_ECDSA) {
+        const uint8_t *der = raw;
+        ECDSA_SIG *both = d2i_ECDSA_SIG(NULL, &der, (long)raw_len);
+        if (both == NULL) return false;
+        put_number(&numbers, ECDSA_SIG_get0_r(both));
+        put_number(&numbers, ECDSA_SIG_get0_s(both));
+        ECDSA_SIG_free(both);
+        put_string(&signature, pair, numbers.len);
+    } else
+        put_string(&signature, raw, raw_len);
+    *out_len = signature.len;
+    return !signature.short_of_room && !numbers.short_of_room;
+}
+
+/* ---- own host keys */
+
+static bool describe_ed25519(EVP_PKEY *key, struct blob *blob)
+{
+    uint8_t value[32];
+    size_t len = sizeof value;
+    if (EVP_PKEY_get_raw_public_key(key, value, &len) <= 0) return false;
+    put_string(blob, value, len);
+    return true;
+}
+
+static bool describe_ecdsa(EVP_PKEY *key, const struct scheme *s, struct blob *blob)
+{
+    uint8_t *point = NULL;
+    /* A file may hold the point compressed. */
+    EVP_PKEY_set_utf8_string_param(key, OSSL_PKEY_PARAM_EC_POINT_CONVERSION_FORMAT, OSSL_PKEY_EC_POINT_CONVERSION_FORMAT_UNCOMPRESSED);
+    size_t len = EVP_PKEY_get1_encoded_public_key(key, &point);
+    put_text(blob, s->curve);
+    put_string(blob, point, len);
+    OPENSSL_free(point);
+    return len > 0;
+}
+
+static bool describe_rsa(EVP_PKEY *key, struct blob *blob)
+{
+    BIGNUM *e = NULL, *n = NULL;
+    bool good = EVP_PKEY_get_bits(key) >= RSA_BITS_LEAST && EVP_PKEY_get_bn_param(key, OSSL_PKEY_PARAM_RSA_E, &e) > 0
+        && EVP_PKEY_get_bn_param(key, OSSL_PKEY_PARAM_RSA_N, &n) > 0;
+    if (good) {
+        put_number(blob, e);
+        put_number(blob, n);
+    }
+    BN_free(e);
+    BN_free(n);
+    return good;
+}
+
+static bool is_of(EVP_PKEY *key, const struct scheme *s)
+{
+    char group[64] = "";
+    switch (s->kind) {
+    case KEY_ED25519: return EVP_PKEY_is_a(key, "ED25519");
+    case KEY_RSA: return EVP_PKEY_is_a(key, "RSA");
+    case KEY_ECDSA:
+        return EVP_PKEY_is_a(key, "EC") && EVP_PKEY_get_group_name(key, group, sizeof group, NULL) > 0
+            && OBJ_txt2nid(group) == OBJ_txt2nid(s->group);
+    }
+    return false;
+}
+
+bool describe_host_key(struct host_key *k)
+{
+    const struct scheme *s = NULL;
+    for (size_t i = 0; s == NULL && i < scheme_count; i++)
+        if (is_of(k->key, &schemes[i])) s = &schemes[i];
+    if (s == NULL) return false;
+
+    struct blob blob = {k->blob, sizeof k->blob, 0, false};
+    put_text(&blob, s->key_type);
+    bool good = s->kind == KEY_ED25519 ? describe_ed25519(k->key, &blob)
+        : s->kind == KEY_ECDSA         ? describe_ecdsa(k->key, s, &blob)
+                                       : describe_rsa(k->key, &blob);
+    k->type = s->key_type;
+    k->blob_len = blob.len;
+    return good && !blob.short_of_room;
+}

@@ -1,0 +1,322 @@
+/* One connection: its socket, version lines (RFC 4253, 4.2) and packets in the clear (RFC 4253, 6). */
+#include "dock.h"
+#include <errno.h>
+#include <fcntl.h>
+#include <limits.h>
+#include <netdb.h>
+#include <netinet/in.h>
+#include <netinet/tcp.h>
+#include <openssl/crypto.h>
+#include <openssl/rand.h>
+#include <poll.h>
+#include <stdarg.h>
+#include <string.h>
+#include <sys/socket.h>
+#include <time.h>
+#include <unistd.h>
+
+#define VERSION_LINE_MOST 255  /* with its CR and LF */
+#define LINES_AHEAD_MOST 65536 /* bytes that a server may send ahead of its version line */
+#define LAST_WORDS_MS 1000     /* what DISCONNECT, and then the peer's end, may take */
+
+static long long now_ms(void)
+{
+    struct timespec t;
+    clock_gettime(CLOCK_MONOTONIC, &t);
+    return t.tv_sec * 1000LL + t.tv_nsec / 1000000;
+}
+
+void link_restart_clock(struct link *l) { l->deadline = now_ms() + l->timeout * 1000LL; }
+
+/* ---- failures are texts until someone decides to print them: NULL is none */
+
+static const char *ready(const struct link *l, short events)
+{
+    for (;;) {
+        struct pollfd p = {l->fd, events, 0};
+        long long left = l->deadline - now_ms();
+        if (left <= 0) return "the time for the connection is over";
+        int n = poll(&p, 1, left > INT_MAX ? INT_MAX : (int)left);
+        if (n > 0) return NULL;
+        if (n < 0 && errno != EINTR) return strerror(errno);
+    }
+}
+
+static bool again(void) { return errno == EAGAIN || errno == EWOULDBLOCK || errno == EINTR; }
+
+static const char *send_bytes(struct link *l, const uint8_t *bytes, size_t len)
+{
+    while (len > 0) {
+        const char *failure = ready(l, POLLOUT);
+        if (failure != NULL) return failure;
+        ssize_t n = send(l->fd, bytes, len, MSG_NOSIGNAL);
+        if (n < 0 && !again()) return strerror(errno);
+        if (n > 0) {
+            bytes += n;
+            len -= (size_t)n;
+        }
+    }
+    return NULL;
+}
+
+static const char *send_packet(struct link *l, const uint8_t *payload, size_t len)
+{
+    uint8_t packet[4 + 1 + CASTULFRISA_REPLY + 12];
+    size_t padding = 8 - (5 + len) % 8;
+    if (padding < 4) padding += 8;
+    size_t length = 1 + len + padding;
+    if (4 + length > sizeof packet) return "packet too long to send";
+
+    packet[0] = (uint8_t)(length >> 24);
+    packet[1] = (uint8_t)(length >> 16);
+    packet[2] = (uint8_t)(length >> 8);
+    packet[3] = (uint8_t)length;
+    packet[4] = (uint8_t)padding;
+    memcpy(packet + 5, payload, len);
+    if (RAND_bytes(packet + 5 + len, (int)padding) != 1) return "no random bytes";
+    return send_bytes(l, packet, 4 + length);
+}
+
+/* ---- sockets */
+
+static void link_init(struct link *l, int fd, int timeout)
+{
+    memset(l, 0, sizeof *l);
+    l->fd = fd;
+    l->timeout = timeout;
+    link_restart_clock(l);
+}
+
+/* Every wait is poll's, and a small packet does not wait for the answer to the one before it. */
+static bool prepare(int fd)
+{
+    int flags = fcntl(fd, F_GETFL), yes = 1;
+    return flags >= 0 && fcntl(fd, F_SETFL, flags | O_NONBLOCK) == 0
+        && setsockopt(fd, IPPROTO_TCP, TCP_NODELAY, &yes, sizeof yes) == 0;
+}
+
+bool link_connect(struct link *l, const char *host, const char *port, int timeout)
+{
+    struct addrinfo hints, *found;
+    const char *failure = "no address";
+
+    memset(&hints, 0, sizeof hints);
+    hints.ai_family = AF_UNSPEC;
+    hints.ai_socktype = SOCK_STREAM;
+    link_init(l, -1, timeout);
+    int answer = getaddrinfo(host, port, &hints, &found);
+    if (answer != 0) return trouble("%s: %s", host, gai_strerror(answer));
+
+    for (struct addrinfo *a = found; a != NULL; a = a->ai_next) {
+        l->fd = socket(a->ai_family, a->ai_socktype, a->ai_protocol);
+        if (l->fd < 0) {
+            failure = strerror(errno);
+            continue;
+        }
+        if (!prepare(l->fd)) failure = strerror(errno);
+        else if (connect(l->fd, a->ai_addr, a->ai_addrlen) == 0) failure = NULL;
+        else if (errno != EINPROGRESS) failure = strerror(errno);
+        else if ((failure = ready(l, POLLOUT)) == NULL) {
+            int error = 0;
+            socklen_t size = sizeof error;
+            if (getsockopt(l->fd, SOL_SOCKET, SO_ERROR, &error, &size) != 0) error = errno;
+            if (error != 0) failure = strerror(error);
+        }
+        if (failure == NULL) break;
+        close(l->fd);
+        l->fd = -1;
+    }
+    freeaddrinfo(found);
+    return failure == NULL || trouble("%s port %s: %s", host, port, failure);
+}
+
+bool link_listen(int *listener, uint16_t *port)
+{
+    struct sockaddr_in address;
+    socklen_t size = sizeof address;
+    int yes = 1;
+
+    memset(&address, 0, sizeof address);
+    address.sin_family = AF_INET;
+    address.sin_addr.s_addr = htonl(INADDR_ANY);
+    address.sin_port = htons(*port);
+    *listener = socket(AF_INET, SOCK_STREAM, 0);
+    if (*listener < 0 || setsockopt(*listener, SOL_SOCKET, SO_REUSEADDR, &yes, sizeof yes) != 0
+        || bind(*listener, (struct sockaddr *)&address, sizeof address) != 0 || listen(*listener, 16) != 0
+        || getsockname(*listener, (struct sockaddr *)&address, &size) != 0)
+        return trouble("port %u: %s", (unsigned)*port, strerror(errno));
+    *port = ntohs(address.sin_port);
+    return true;
+}
+
+bool link_accept(struct link *l, int listener, int timeout)
+{
+    int fd;
+    do fd = accept(listener, NULL, NULL);
+    while (fd < 0 && (errno == EINTR || errno == ECONNABORTED));
+    link_init(l, fd, timeout);
+    return (fd >= 0 && prepare(fd)) || trouble("accept: %s", strerror(errno));
+}
+
+/* Ends our half and waits a moment for the peer's: closing over bytes that were not read would reset the connection, and what
+   we sent last might never be read. */
+void link_close(struct link *l)
+{
+    if (l->fd >= 0) {
+        l->deadline = now_ms() + LAST_WORDS_MS;
+        bool open = shutdown(l->fd, SHUT_WR) == 0;
+        while (open && ready(l, POLLIN) == NULL) {
+            ssize_t n = recv(l->fd, l->in, sizeof l->in, 0);
+            open = n > 0 || (n < 0 && again());
+        }
+        close(l->fd);
+    }
+    OPENSSL_cleanse(l, sizeof *l);
+    l->fd = -1;
+}
+
+/* ---- what comes in */
+
+/* Has at least n bytes waiting, n up to the buffer's length. */
+static bool need(struct link *l, size_t n)
+{
+    if (l->end - l->begin >= n) return true;
+    memmove(l->in, l->in + l->begin, l->end - l->begin);
+    l->end -= l->begin;
+    l->begin = 0;
+    while (l->end < n) {
+        const char *failure = ready(l, POLLIN);
+        if (failure != NULL) return trouble("receiving: %s", failure);
+        ssize_t got = recv(l->fd, l->in + l->end, sizeof l->in - l->end, 0);
+        if (got == 0) return trouble("the peer closed the connection");
+        if (got < 0 && !again()) return trouble("receiving: %s", strerror(errno));
+        if (got > 0) l->end += (size_t)got;
+    }
+    return true;
+}
+
+static uint32_t number_at(const uint8_t *at)
+{
+    return (uint32_t)at[0] << 24 | (uint32_t)at[1] << 16 | (uint32_t)at[2] << 8 | at[3];
+}
+
+/* One packet, whatever its message. */
+static bool receive_packet(struct link *l, span *payload)
+{
+    l->begin += l->packet;
+    l->packet = 0;
+    if (!need(l, 4)) return false;
+    uint32_t length = number_at(l->in + l->begin);
+    if (length < 12 || length > PACKET_MOST - 4 || length % 8 != 4)
+        return peer_fault(l, "packet length %lu not allowed", (unsigned long)length);
+    if (!need(l, 4 + (size_t)length)) return false;
+    uint8_t padding = l->in[l->begin + 4];
+    if (padding < 4 || padding > length - 1) return peer_fault(l, "padding length %u not allowed", (unsigned)padding);
+    payload->at = l->in + l->begin + 5;
+    payload->len = length - 1 - padding;
+    l->packet = 4 + (size_t)length;
+    return true;
+}
+
+static bool disconnected(span payload)
+{
+    if (payload.len < 5) return trouble("the peer disconnected without a reason");
+    castulfrisa_string_read text = castulfrisa_read_string(payload.at + 5, payload.len - 5);
+    int len = text.body.len > 200 ? 200 : (int)text.body.len;
+    return trouble("the peer disconnected: reason %lu, %.*s", (unsigned long)number_at(payload.at + 1), len,
+                   (const char *)payload.at + 5 + text.body.start);
+}
+
+bool link_receive(struct link *l, span *payload)
+{
+    while (receive_packet(l, payload)) {
+        uint8_t message = payload->len > 0 ? payload->at[0] : 0;
+        long len = (long)payload->len;
+        switch (message) {
+        case MESSAGE_IGNORE: show(l->show, "<-", "IGNORE", len, -1, -1); break;
+        case MESSAGE_DEBUG: show(l->show, "<-", "DEBUG", len, -1, -1); break;
+        case MESSAGE_UNIMPLEMENTED: show(l->show, "<-", "UNIMPLEMENTED", len, -1, -1); break;
+        case MESSAGE_DISCONNECT: show(l->show, "<-", "DISCONNECT", len, -1, -1); return disconnected(*payload);
+        default: return true;
+        }
+    }
+    return false;
+}
+
+bool link_read_version(struct link *l, bool from_server, uint8_t v[CASTULFRISA_V_MOST], size_t *v_len)
+{
+    size_t ahead = 0;
+    for (;;) {
+        uint8_t line[VERSION_LINE_MOST];
+        size_t len = 0; /* of the line so far, its end included; only its beginning is kept */
+        do {
+            if (!need(l, 1)) return false;
+            uint8_t b = l->in[l->begin++];
+            if (len < sizeof line) line[len] = b;
+            len++;
+            if (b == '\n') break;
+        } while (len < sizeof line || (from_server && memcmp(line, "SSH-", 4) != 0 && len + ahead < LINES_AHEAD_MOST));
+
+        bool version = len >= 4 && memcmp(line, "SSH-", 4) == 0;
+        if (!version && !from_server) return trouble("the peer's first line is no version line");
+        if (!version) {
+            ahead += len;
+            if (ahead >= LINES_AHEAD_MOST) return trouble("no version line in the peer's first %d bytes", LINES_AHEAD_MOST);
+            show(l->show, "<-", "line", (long)len, -1, -1);
+            continue;
+        }
+        if (len > sizeof line || line[len - 1] != '\n') return trouble("the peer's version line is too long");
+        size_t kept = len - 1;
+        if (line[kept - 1] == '\r') kept--;
+        if (kept > CASTULFRISA_V_MOST) return trouble("the peer's version line is too long");
+        if (memchr(line, 0, kept) != NULL || memchr(line, '\r', kept) != NULL)
+            return trouble("the peer's version line holds a control byte");
+        if (!(kept >= 8 && memcmp(line, "SSH-2.0-", 8) == 0) && !(kept >= 9 && memcmp(line, "SSH-1.99-", 9) == 0))
+            return trouble("the peer's version is not 2.0: %.*s", (int)kept, (const char *)line);
+        memcpy(v, line, kept);
+        *v_len = kept;
+        show(l->show, "<-", "version", (long)len, -1, -1);
+        return true;
+    }
+}
+
+/* ---- what goes out */
+
+bool link_send_version(struct link *l, const char *v)
+{
+    char line[VERSION_LINE_MOST + 1];
+    int len = snprintf(line, sizeof line, "%s\r\n", v);
+    show(l->show, "->", "version", len, -1, -1);
+    const char *failure = send_bytes(l, (const uint8_t *)line, (size_t)len);
+    return failure == NULL || trouble("sending: %s", failure);
+}
+
+bool link_send(struct link *l, const uint8_t *payload, size_t len)
+{
+    const char *failure = send_packet(l, payload, len);
+    return failure == NULL || trouble("sending: %s", failure);
+}
+
+bool peer_fault(struct link *l, const char *format, ...)
+{
+    static const uint8_t text[] = "key exchange failed";
+    uint8_t payload[64] = {MESSAGE_DISCONNECT, 0, 0, 0, KEY_EXCHANGE_FAILED};
+    size_t len = 5;
+    char line[400];
+    va_list arguments;
+
+    va_start(arguments, format);
+    vsnprintf(line, sizeof line, format, arguments);
+    va_end(arguments);
+    trouble("%s", line);
+
+    /* After own NEWKEYS the peer would take it for an encrypted packet. */
+    if (l->sealed) return false;
+    l->sealed = true;
+    l->deadline = now_ms() + LAST_WORDS_MS;
+    len += castulfrisa_write_string(payload + len, sizeof payload - len, text, sizeof text - 1).count;
+    len += castulfrisa_write_string(payload + len, sizeof payload - len, NULL, 0).count;
+    show(l->show, "->", "DISCONNECT", (long)len, -1, -1);
+    (void)send_packet(l, payload, len);
+    return false;
+}

@@ -1,0 +1,219 @@
+/* The command line. */
+#include "dock.h"
+#include <errno.h>
+#include <signal.h>
+#include <stdlib.h>
+#include <string.h>
+#include <unistd.h>
+
+#define METHODS \
+    "curve25519-sha256,curve25519-sha256@libssh.org,ecdh-sha2-nistp256,ecdh-sha2-nistp384,ecdh-sha2-nistp521,curve448-sha512"
+#define TIMEOUT 20
+
+enum { DONE = 0, FAILED = 1, USAGE = 2 };
+
+static const char help[] =
+    "usage: dock client HOST PORT [--known-hosts FILE] [--methods NAME,..] [--host-keys NAME,..] [--show] [--timeout SECONDS]\n"
+    "       dock server PORT --host-key FILE [--host-key FILE ..] [--methods NAME,..] [--x-begins HEX] [--count N] [--show]\n"
+    "                   [--timeout SECONDS]\n"
+    "\n"
+    "Makes one SSH key exchange, up to NEWKEYS, and prints method, host key, H and the first two bytes of X. A failure is one line\n"
+    "on standard error and exit 1; a fault of the peer is answered with SSH_DISCONNECT, reason 3. Exit 2: the command line.\n"
+    "\n"
+    "  --known-hosts FILE  refuse a host key that FILE does not have for HOST ('host type base64' or '[host]:port type base64')\n"
+    "  --methods NAME,..   key exchange methods in order of preference: curve25519-sha256, curve25519-sha256@libssh.org,\n"
+    "                      curve448-sha512, ecdh-sha2-nistp256, ecdh-sha2-nistp384, ecdh-sha2-nistp521\n"
+    "  --host-keys NAME,.. host key names in order of preference: ssh-ed25519, ecdsa-sha2-nistp256, ecdsa-sha2-nistp384,\n"
+    "                      ecdsa-sha2-nistp521, rsa-sha2-512, rsa-sha2-256\n"
+    "  --host-key FILE     a private key, in PEM or OpenSSH form, without a passphrase\n"
+    "  --x-begins HEX      for tests: draw the ephemeral key until X begins with these 1 or 2 bytes\n"
+    "  --count N           connections to serve, one after the other (1); exit 0 if every exchange was completed\n"
+    "  --show              print each message and step, the core's number for it, and how far the room is filled\n"
+    "  --timeout SECONDS   what one connection may take (20)\n"
+    "PORT 0 of a server is any free port; 'listening on PORT' is printed first.\n";
+
+struct command {
+    struct settings set;
+    struct host_key keys[HOST_KEYS_MOST];
+    char host_keys[512], port[8];
+    long count;
+};
+
+/* ---- values of options */
+
+static bool whole_number(const char *text, long least, long most, long *value)
+{
+    char *end;
+    errno = 0;
+    *value = strtol(text, &end, 10);
+    return text[0] >= '0' && text[0] <= '9' && *end == 0 && errno == 0 && *value >= least && *value <= most;
+}
+
+static bool is_own_method(const char *name, size_t len)
+{
+    uint8_t method = castulfrisa_method_number((const uint8_t *)name, len);
+    return method != 0 && method_name(method) != NULL;
+}
+
+static bool is_own_scheme(const char *name, size_t len) { return scheme_named((const uint8_t *)name, len) != NULL; }
+
+/* Whether every name of a comma-separated list is one of ours. */
+static bool all_names(const char *list, bool (*own)(const char *, size_t))
+{
+    for (;;) {
+        size_t len = strcspn(list, ",");
+        if (!own(list, len)) return false;
+        if (list[len] == 0) return true;
+        list += len + 1;
+    }
+}
+
+static int digit(char c)
+{
+    static const char digits[] = "0123456789abcdef0123456789ABCDEF";
+    const char *at = c == 0 ? NULL : strchr(digits, c);
+    return at == NULL ? -1 : (int)((at - digits) % 16);
+}
+
+static bool read_hex(const char *text, uint8_t *out, size_t most, size_t *len)
+{
+    size_t n = strlen(text) / 2;
+    if (strlen(text) % 2 != 0 || n == 0 || n > most) return false;
+    for (size_t i = 0; i < n; i++) {
+        int high = digit(text[2 * i]), low = digit(text[2 * i + 1]);
+        if (high < 0 || low < 0) return false;
+        out[i] = (uint8_t)(high * 16 + low);
+    }
+    *len = n;
+    return true;
+}
+
+/* ---- the command */
+
+static int misused(const char *what, const char *value)
+{
+    trouble("%s%s%s (see dock --help)", what, value == NULL ? "" : ": ", value == NULL ? "" : value);
+    return USAGE;
+}
+
+static bool is_option(const char *given, const char *name) { return strcmp(given, name) == 0; }
+
+/* One option and, but for --show, its value. */
+static int take_option(struct command *c, bool client, const char *name, const char *value)
+{
+    struct settings *set = &c->set;
+    long number;
+    if (is_option(name, "--methods")) {
+        if (!all_names(value, is_own_method)) return misused("no list of methods that are made here", value);
+        set->methods = value;
+    } else if (is_option(name, "--timeout")) {
+        if (!whole_number(value, 1, 86400, &number)) return misused("no number of seconds", value);
+        set->timeout = (int)number;
+    } else if (client && is_option(name, "--host-keys")) {
+        if (!all_names(value, is_own_scheme)) return misused("no list of host key names that are verified here", value);
+        set->host_keys = value;
+    } else if (client && is_option(name, "--known-hosts")) {
+        if (set->known_hosts != NULL) return misused("--known-hosts given twice", NULL);
+        set->known_hosts = fopen(value, "r");
+        if (set->known_hosts == NULL) return trouble("%s: %s", value, strerror(errno)), FAILED;
+    } else if (!client && is_option(name, "--host-key")) {
+        if (set->key_count == HOST_KEYS_MOST) return misused("too many host keys", NULL);
+        if (!load_host_key(value, &c->keys[set->key_count])) return FAILED;
+        set->key_count++;
+    } else if (!client && is_option(name, "--x-begins")) {
+        if (!read_hex(value, set->x_begins, sizeof set->x_begins, &set->x_begins_len)) return misused("no 1 or 2 bytes in hex", value);
+    } else if (!client && is_option(name, "--count")) {
+        if (!whole_number(value, 1, 1000000000, &c->count)) return misused("no number of connections", value);
+    } else
+        return misused("no such option here", name);
+    return DONE;
+}
+
+static int take_options(struct command *c, bool client, char **arguments)
+{
+    for (; *arguments != NULL; arguments++) {
+        if (is_option(*arguments, "--show")) {
+            c->set.show = true;
+            continue;
+        }
+        if (strncmp(*arguments, "--", 2) != 0) return misused("one argument too many", *arguments);
+        if (arguments[1] == NULL) return misused("no value or no such option", *arguments);
+        int result = take_option(c, client, arguments[0], arguments[1]);
+        if (result != DONE) return result;
+        arguments++;
+    }
+    return DONE;
+}
+
+/* The names that the host keys can sign for, in the order of the keys. */
+static void list_host_keys(struct command *c)
+{
+    size_t len = 0;
+    for (size_t i = 0; i < c->set.key_count; i++)
+        for (size_t j = 0; j < scheme_count; j++) {
+            bool listed = false;
+            for (size_t other = 0; other < i; other++) listed |= strcmp(c->keys[other].type, c->keys[i].type) == 0;
+            if (listed || strcmp(schemes[j].key_type, c->keys[i].type) != 0) continue;
+            len += (size_t)snprintf(c->host_keys + len, sizeof c->host_keys - len, "%s%s", len == 0 ? "" : ",", schemes[j].name);
+        }
+    c->set.host_keys = c->host_keys;
+}
+
+static int run_client(struct command *c, char **arguments)
+{
+    long port;
+    if (arguments[0] == NULL || arguments[1] == NULL) return misused("client needs HOST and PORT", NULL);
+    if (!whole_number(arguments[1], 1, 65535, &port)) return misused("no port", arguments[1]);
+    snprintf(c->port, sizeof c->port, "%ld", port);
+    c->set.host = arguments[0];
+    c->set.port = c->port;
+    c->set.host_keys = "ssh-ed25519,ecdsa-sha2-nistp256,ecdsa-sha2-nistp384,ecdsa-sha2-nistp521,rsa-sha2-512,rsa-sha2-256";
+    int result = take_options(c, true, arguments + 2);
+    if (result != DONE) return result;
+    bool done = exchange_as_client(&c->set);
+    wipe_stack();
+    return done ? DONE : FAILED;
+}
+
+static int run_server(struct command *c, char **arguments)
+{
+    long number;
+    int listener;
+    if (arguments[0] == NULL) return misused("server needs PORT", NULL);
+    if (!whole_number(arguments[0], 0, 65535, &number)) return misused("no port", arguments[0]);
+    int result = take_options(c, false, arguments + 1);
+    if (result != DONE) return result;
+    if (c->set.key_count == 0) return misused("server needs --host-key", NULL);
+    list_host_keys(c);
+
+    uint16_t port = (uint16_t)number;
+    if (!link_listen(&listener, &port)) return FAILED;
+    printf("listening on %u\n", (unsigned)port);
+    fflush(stdout);
+    for (long i = 0; i < c->count; i++) {
+        if (!exchange_as_server(&c->set, listener)) result = FAILED;
+        wipe_stack();
+    }
+    close(listener);
+    return result;
+}
+
+int main(int count, char **arguments)
+{
+    static struct command c = {.set = {.methods = METHODS, .timeout = TIMEOUT}, .count = 1};
+    int result;
+
+    c.set.keys = c.keys;
+    signal(SIGPIPE, SIG_IGN); /* a reader of our output that went away is a failure like others */
+    if (count < 2) return misused("client or server?", NULL);
+    for (int i = 1; i < count; i++)
+        if (is_option(arguments[i], "--help")) return fputs(help, stdout) < 0 || fflush(stdout) != 0 ? FAILED : DONE;
+
+    if (is_option(arguments[1], "client")) result = run_client(&c, arguments + 2);
+    else if (is_option(arguments[1], "server")) result = run_server(&c, arguments + 2);
+    else result = misused("neither client nor server", arguments[1]);
+
+    for (size_t i = 0; i < c.set.key_count; i++) EVP_PKEY_free(c.keys[i].key);
+    if (c.set.known_hosts != NULL) fclose(c.set.known_hosts);
+    return result;
+}

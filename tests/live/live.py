@@ -1,0 +1,321 @@
+#!/usr/bin/env python3
+"""dock against OpenSSH and against hostile peers, over the loopback.
+
+usage: live.py --dock PROGRAM [--dock-asan PROGRAM] [--seed TEXT]
+
+Starts sshd and ssh itself, with keys and files in a temporary folder. Prints a line for each part; exits 1 with one line at the first
+failure. --dock-asan: the hostile peers once more, against a build with sanitizers. Needs OpenSSH's client and server.
+"""
+import argparse
+import base64
+import concurrent.futures
+import re
+import socket
+import subprocess
+import sys
+import tempfile
+import time
+
+sys.dont_write_bytecode = True
+from forms import all_forms
+from hostile import (FAULT, OWN, PUBLIC, SECRET, SIGNER, Turn, against_client, against_server, all_sessions, changed_replies, judge,
+                     slow_peers)
+from peer import (DEBUG, IGNORE, INIT, NEWKEYS, REPLY, UNIMPLEMENTED, ed25519_holds, exchange_hash, kexinit, packet, string, take_string,
+                  x25519)
+from programs import METHODS, Dock, Failure, Programs, need, results
+
+EXTRAS_C = b",ext-info-c,kex-strict-c-v00@openssh.com"
+EXTRAS_S = b",ext-info-s,kex-strict-s-v00@openssh.com"
+WORDS = (packet(bytes([IGNORE]) + string(b"")) + packet(bytes([DEBUG, 0]) + string(b"text") + string(b""))
+         + packet(bytes([UNIMPLEMENTED]) + bytes(4)))
+
+
+def one_line(err, *parts):
+    need(err.startswith("dock: ") and err.count("\n") == 1 and err.endswith("\n"), f"standard error is not one line: {err!r}")
+    need(all(part in err for part in parts), f"{' and '.join(parts)} expected: {err.strip()}")
+
+
+def completed(answer, method, host_key):
+    """The results of an exchange that must be complete."""
+    code, out, err = answer
+    need(code == 0 and err == "", f"exit {code}: {err.strip()}")
+    found = results(out)
+    need(found["method"] == f"{method} {METHODS[method]}", "method", found["method"])
+    need(found["host key"].split()[0] == host_key, "host key", found["host key"])
+    need(len(found["H"]) == {1: 64, 2: 64, 3: 128, 4: 64, 5: 96, 6: 128}[method], "H", found["H"])
+    return found
+
+
+# ---- the command line
+
+def command_line(programs, dock):
+    code, out, err = dock.run("--help")
+    need(code == 0 and out.startswith("usage: dock ") and err == "", "--help")
+    wrong = [(), ("neither",), ("client",), ("client", "h"), ("client", "h", "0"), ("client", "h", "65536"), ("client", "h", "1x"),
+             ("server",), ("server", "0"), ("client", "h", "1", "more"), ("client", "h", "1", "--methods", "curve25519-sha256,"),
+             ("client", "h", "1", "--methods", "mlkem768x25519-sha256"), ("client", "h", "1", "--host-keys", "ssh-dss"),
+             ("client", "h", "1", "--count", "1"), ("client", "h", "1", "--timeout", "0"), ("client", "h", "1", "--timeout"),
+             ("server", "0", "--x-begins", "0"), ("server", "0", "--x-begins", "00zz"), ("server", "0", "--known-hosts", "f")]
+    for arguments in wrong:
+        code, out, err = dock.run(*arguments)
+        need(code == 2 and out == "", "exit", code, "of", arguments)
+        one_line(err)
+    nobody = programs.path("nobody")
+    empty = programs.write("empty", "")
+    for arguments in [("client", "127.0.0.1", 1), ("client", "127.0.0.1", 1, "--known-hosts", nobody), ("server", 0, "--host-key", nobody),
+                      ("server", 0, "--host-key", empty), ("server", 0, "--host-key", programs.key("ssh-ed25519") + ".pub")]:
+        code, out, err = dock.run(*arguments)
+        need(code == 1 and out == "", "exit", code, "of", arguments)
+        one_line(err)
+    return f"{len(wrong) + 5} refused command lines"
+
+
+# ---- 1: client against sshd
+
+def known_hosts(programs, port):
+    lines = ["# a comment", "", f"|1|c2FsdA==|aGFzaA== {programs.public('ssh-ed25519')}", f"@revoked * {programs.public('ssh-ed25519')}"]
+    for host_key in ("ssh-ed25519", "ecdsa-sha2-nistp256", "ecdsa-sha2-nistp384", "ecdsa-sha2-nistp521", "rsa-sha2-256"):
+        lines.append(f"other.example,[127.0.0.1]:{port} {programs.public(host_key)} a comment")
+    return programs.write("known_hosts", "\n".join(lines) + "\n")
+
+
+def shown(out):
+    """The lines of --show hold together: the room's filling is the sum of what went in."""
+    line = {}
+    for text in out.splitlines():
+        m = re.fullmatch(r"(->|<-|  ) (\w+) +(?:(\d+) bytes)?(?: +number (\d+))?(?:  room (\d+) of 14156)?", text)
+        if m:
+            line[m[1].strip() + m[2]] = [None if g is None else int(g) for g in m.groups()[2:]]
+    need(set(line) == {"->version", "<-version", "->KEXINIT", "<-KEXINIT", "start", "->INIT", "<-REPLY", "secret", "verdict", "->NEWKEYS",
+                       "<-NEWKEYS"}, "--show has other lines:", sorted(line))
+    strings = line["->version"][0] + line["<-version"][0] - 4 + line["->KEXINIT"][0] + line["<-KEXINIT"][0] + 16
+    need(line["start"][1:] == [0, strings], "--show: start", line["start"])
+    need(line["->INIT"] == [37, 0, strings + 36], "--show: INIT", line["->INIT"])
+    need(line["<-REPLY"][1:] == [0, strings + 36 + 55 + 36], "--show: REPLY", line["<-REPLY"])
+    need(line["secret"][1] == 0 and 0 < line["secret"][2] - line["<-REPLY"][2] <= 37, "--show: secret", line["secret"])
+
+
+def as_client(programs, dock, port):
+    known = known_hosts(programs, port)
+    pairs = [(1, "ssh-ed25519"), (2, "ecdsa-sha2-nistp256"), (4, "ecdsa-sha2-nistp384"), (5, "ecdsa-sha2-nistp521"), (6, "rsa-sha2-256"),
+             (1, "rsa-sha2-512"), (4, "ssh-ed25519")]
+    for method, host_key in pairs:
+        answer = dock.run("client", "127.0.0.1", port, "--known-hosts", known, "--methods", METHODS[method], "--host-keys", host_key)
+        found = completed(answer, method, host_key)
+        need(found["host key"] == f"{host_key} {programs.fingerprint(host_key)}", "fingerprint", found["host key"])
+        need(found["known"] == "yes", "known", found["known"])
+
+    answer = dock.run("client", "localhost", port, "--show")
+    need(completed(answer, 1, "ssh-ed25519")["known"] == "not asked", "known without a file")
+    shown(answer[1])
+
+    right, other = programs.public("ssh-ed25519"), SIGNER.blob
+    wrong = "ssh-ed25519 " + base64.b64encode(other).decode()
+    ed25519 = ("--host-keys", "ssh-ed25519")
+    for text in (f"127.0.0.1 {right}\n", f"a,127.0.0.1,b {right}", f"127.0.0.1 {wrong}\n[127.0.0.1]:{port} {right}\n"):
+        answer = dock.run("client", "127.0.0.1", port, *ed25519, "--known-hosts", programs.write("known", text))
+        need(completed(answer, 1, "ssh-ed25519")["known"] == "yes", "known by", repr(text))
+    refused = [
+        (f"[127.0.0.1]:{port} {wrong}\n", "differs"), (f"127.0.0.1 {wrong}\n", "differs"),
+        (f"127.0.0.1 ssh-ed25519 {right.split()[1][:-4]}\n", "differs"), ("", "not known"), (f"#,127.0.0.1 {right}\n", "not known"),
+        (f"[127.0.0.1]:{port + 1} {right}\n", "not known"), (f"127.0.0.10 {right}\n", "not known"),
+        (f"@revoked 127.0.0.1 {right}\n", "not known"), (f"127.0.0.1 {programs.public('rsa-sha2-256')}\n", "not known")]
+    for text, why in refused:
+        code, out, err = dock.run("client", "127.0.0.1", port, *ed25519, "--known-hosts", programs.write("known", text))
+        need(code == 1 and out == "", "a host key that is not known: exit", code, "for", repr(text))
+        one_line(err, "(number 18: ", programs.fingerprint("ssh-ed25519"), why)
+    until = time.monotonic() + 5
+    while True:  # sshd may write a line after it has closed
+        told = programs.log().count(":3: key exchange failed")
+        if told == len(refused) or time.monotonic() > until:
+            break
+        time.sleep(0.1)
+    need(told == len(refused), "sshd was told of", told, "failed key exchanges, and not of", len(refused))
+    return f"{len(pairs) + 4} exchanges, {len(refused)} refused host keys"
+
+
+# ---- 2 and 3: server for ssh
+
+def serve_ssh(programs, dock, method, host_key, file, *options):
+    process, port = dock.serve("--host-key", file, *options)
+    known = programs.write(f"known_{port}", f"[127.0.0.1]:{port} {programs.public(host_key)}\n")
+    code, out, err = programs.ssh(port, method, host_key, known)
+    answer = dock.end(process)
+    need(answer[0] == 0, f"method {method}, {host_key}: {answer[2].strip()} (ssh: {err.strip()})")
+    found = completed(answer, method, host_key)
+    need(found["host key"].split()[1] == programs.fingerprint(host_key), "fingerprint", found["host key"])
+    return found
+
+
+def as_server(programs, dock):
+    cases = [(1, "ssh-ed25519", programs.key), (2, "ecdsa-sha2-nistp256", programs.pem), (4, "ecdsa-sha2-nistp384", programs.key),
+             (5, "ecdsa-sha2-nistp521", programs.pem), (6, "rsa-sha2-256", programs.pem), (1, "rsa-sha2-512", programs.key),
+             (4, "ssh-ed25519", programs.pem), (5, "ecdsa-sha2-nistp256", programs.key), (6, "ecdsa-sha2-nistp521", programs.key)]
+    for method, host_key, file in cases:
+        serve_ssh(programs, dock, method, host_key, file(host_key))
+
+    # two connections of one server with two keys; and dock with dock, in the method that this ssh does not have
+    process, port = dock.serve("--host-key", programs.key("ssh-ed25519"), "--host-key", programs.key("rsa-sha2-512"), "--count", 2)
+    for method, host_key in ((3, "rsa-sha2-256"), (6, "ssh-ed25519")):
+        completed(dock.run("client", "127.0.0.1", port, "--methods", METHODS[method], "--host-keys", host_key), method, host_key)
+    code, out, err = dock.end(process)
+    need(code == 0 and out.count("NEWKEYS sent and received") == 2, "two connections of one server:", err.strip())
+    return f"{len(cases)} exchanges with ssh, 2 with dock"
+
+
+BEGINNINGS = [(method, begins) for begins in ("0080", "007f", "80", "7f") for method in (1, 4)]
+
+
+def x_begins(programs, dock, method, begins):
+    options = "--methods", METHODS[method], "--x-begins", begins
+    found = serve_ssh(programs, dock, method, "ssh-ed25519", programs.key("ssh-ed25519"), *options)
+    need(found["X begins"].startswith(begins), f"X begins {found['X begins']} and not {begins}")
+
+
+# ---- 4: hostile peers
+
+def hostile_peers(programs, dock, seed, sshd):
+    key = programs.key("ssh-ed25519")
+    alone = all_sessions(dock, seed, key) + slow_peers(dock, key)
+    forms = all_forms(programs, dock)
+    return f"{alone} sessions, {changed_replies(dock, seed, sshd)} in between sshd, {forms} forms of host key and signature"
+
+
+# ---- 5: guesses and words in between, with H computed here
+
+def client_play(kex, host_keys, follows, guess, before=b"", version=OWN + b"\r\n"):
+    """A client that is right in the end; guess: what it sends at once behind its KEXINIT."""
+    def play(p, rng):
+        p.i_c = kexinit(kex, host_keys, follows)
+        p.send(version + before + packet(p.i_c) + guess)
+        p.v_s, p.i_s = p.version(), p.read()
+        if guess != packet(bytes([INIT]) + string(PUBLIC)):
+            p.send(before + packet(bytes([INIT]) + string(PUBLIC)))
+        reply = p.read()
+        if reply[:1] != bytes([REPLY]):
+            return
+        k_s, rest = take_string(reply[1:])
+        s, rest = take_string(rest)
+        signature, rest = take_string(rest)
+        p.x = x25519(SECRET, s)
+        p.h = exchange_hash(version.rstrip(b"\r\n"), p.v_s, p.i_c, p.i_s, k_s, PUBLIC, s, p.x)
+        p.holds = rest == b"" and ed25519_holds(k_s, signature, p.h)
+        p.send(before + packet(bytes([NEWKEYS])))
+        p.read()
+    return play
+
+
+def server_play(kex, host_keys, follows, guess, before=b"", version=OWN + b"\r\n"):
+    def play(p, rng):
+        p.i_s = kexinit(kex, host_keys, follows)
+        p.send(version + before + packet(p.i_s) + guess + before)
+        p.v_c, p.i_c = p.version(), p.read()
+        p.c = p.read()[5:]
+        p.send(before + packet(p.reply()) + before + packet(bytes([NEWKEYS])))
+        p.holds = True
+        p.read()
+    return play
+
+
+def guesses(programs, dock):
+    first, second, ed25519 = b"curve25519-sha256", b"curve25519-sha256@libssh.org", b"ssh-ed25519"
+    right = packet(bytes([INIT]) + string(PUBLIC))
+    wrong = packet(bytes([INIT]) + string(bytes(31) + b"\1"))
+    junk = packet(b"\xff" + bytes(50))
+    clients = [
+        (2, client_play(second + b"," + first + EXTRAS_C, ed25519, True, wrong)),
+        (2, client_play(second + b"," + first + EXTRAS_C, ed25519, True, WORDS + junk, before=WORDS)),
+        (1, client_play(first + EXTRAS_C, ed25519, True, right)),
+        (1, client_play(first + b"," + second, b"rsa-sha2-256," + ed25519, True, wrong, before=WORDS)),
+        (1, client_play(b"sntrup761x25519-sha512@openssh.com," + first + EXTRAS_C, ed25519, False, b"", before=WORDS)),
+        (1, client_play(b"ext-info-c," + first, ed25519, True, wrong)),
+        (1, client_play(first, ed25519, False, b"", version=b"SSH-1.99-" + b"v" * 244 + b"\n")),
+    ]
+    servers = [
+        (1, server_play(second + b"," + first + EXTRAS_S, ed25519, True, junk)),
+        (1, server_play(second + b"," + first + EXTRAS_S, ed25519, True, packet(bytes([REPLY]) + bytes(40)), before=WORDS)),
+        (1, server_play(first + EXTRAS_S, ed25519, True, b"", before=WORDS)),
+        (2, server_play(b"other," + second + EXTRAS_S, ed25519, False, b"",
+                        version=b"welcome\r\n\nSSHx\n" + b"l" * 5000 + b"\n" + OWN + b"\n")),
+    ]
+    rng = Turn("guesses", 0)
+    with socket.create_server(("127.0.0.1", 0)) as listener:
+        listener.settimeout(20)
+        for i, (method, play) in enumerate(clients + servers):
+            if i < len(clients):
+                p, *answer = against_server(dock, play, rng, "--host-key", programs.key("ssh-ed25519"))
+            else:
+                p, *answer = against_client(dock, play, rng, listener, "--host-keys", "ssh-ed25519,rsa-sha2-256")
+            try:
+                found = completed(answer, method, "ssh-ed25519")
+                need(found["H"] == p.h.hex(), "H", found["H"], "and not", p.h.hex())
+                need(found["X begins"] == p.x[:2].hex(), "X begins", found["X begins"])
+                need(p.holds, "the signature does not hold")
+            except Failure as e:
+                raise Failure(f"guess {i}: {e}") from None
+
+        # a guess is dropped once: the next bad packet is judged; and a right guess is not dropped
+        for play in (client_play(second + b"," + first, ed25519, True, wrong + junk), client_play(first, ed25519, True, junk)):
+            p, code, out, err = against_server(dock, play, rng, "--host-key", programs.key("ssh-ed25519"))
+            judge((FAULT, 11), code, out, err, p.seen)
+    return f"{len(clients)} as server, {len(servers)} as client, 2 refused"
+
+
+# ---- all
+
+def part(name, work, *arguments):
+    began = time.monotonic()
+    try:
+        said = work(*arguments)
+    except (Failure, OSError, subprocess.SubprocessError) as e:
+        raise Failure(f"{name}: {e}") from None
+    print(f"live: {name}: {said} ({time.monotonic() - began:.1f} s)", flush=True)
+
+
+def main():
+    options = argparse.ArgumentParser(description=__doc__.split("\n")[0])
+    options.add_argument("--dock", required=True)
+    options.add_argument("--dock-asan")
+    options.add_argument("--seed", default="live")
+    options = options.parse_args()
+    began = time.monotonic()
+
+    with tempfile.TemporaryDirectory(prefix="live-") as folder:
+        programs = Programs(folder)
+        try:
+            dock = Dock(programs, options.dock)
+            programs.make_keys()
+            sshd = programs.sshd()
+            # Two bytes of X take some 65,536 draws: they are drawn while the other parts run.
+            with concurrent.futures.ThreadPoolExecutor(2) as drawing:
+                draws = [drawing.submit(x_begins, programs, dock, *case) for case in BEGINNINGS]
+                try:
+                    part("command line", command_line, programs, dock)
+                    part("1, client against sshd", as_client, programs, dock, sshd)
+                    part("2, server for ssh", as_server, programs, dock)
+                    part("5, guessed packets", guesses, programs, dock)
+                    part("4, hostile peers", hostile_peers, programs, dock, options.seed, sshd)
+                    if options.dock_asan:
+                        part("4, hostile peers, sanitizers", hostile_peers, programs, Dock(programs, options.dock_asan), options.seed, sshd)
+                    for (method, begins), draw in zip(BEGINNINGS, draws):
+                        try:
+                            draw.result()
+                        except (Failure, OSError, subprocess.SubprocessError) as e:
+                            raise Failure(f"3, X begins {begins}, method {method}: {e}") from None
+                    print(f"live: 3, X that begins 0080, 007f, 80, 7f: {len(draws)} exchanges with ssh ({time.monotonic() - began:.1f} s)")
+                except BaseException:
+                    for draw in draws:
+                        draw.cancel()
+                    programs.stop_all()
+                    raise
+        except (Failure, OSError, subprocess.SubprocessError) as e:
+            print(f"live: FAILED: {e}", file=sys.stderr)
+            return 1
+        finally:
+            programs.stop_all()
+    print(f"live: all passed in {time.monotonic() - began:.1f} s")
+    return 0
+
+
+if __name__ == "__main__":
+    sys.exit(main())

@@ -1,0 +1,81 @@
+#!/usr/bin/env python3
+"""Many exchanges of dock's client with one sshd, methods 1 and 4 in turn.
+
+usage: soak.py --dock PROGRAM [--count N] [--workers N]
+
+Every exchange must be completed: a K with a zero too many or too few makes another H, and the server's signature fails. Counts the
+X that begin with 00, which are the ones where that is decided. Exits 1 with one line at the first failure.
+"""
+import argparse
+import collections
+import concurrent.futures
+import subprocess
+import sys
+import tempfile
+import time
+
+sys.dont_write_bytecode = True
+from programs import METHODS, Dock, Failure, Programs, need, results
+
+SHOWN_EVERY = 250
+
+
+def exchange(dock, port, known, method):
+    options = "--known-hosts", known, "--methods", METHODS[method], "--host-keys", "ssh-ed25519"
+    code, out, err = dock.run("client", "127.0.0.1", port, *options)
+    need(code == 0 and err == "", f"method {method}: exit {code}: {err.strip()}")
+    found = results(out)
+    need(found["method"] == f"{method} {METHODS[method]}" and found["known"] == "yes", "other results:", out)
+    return method, bytes.fromhex(found["X begins"])
+
+
+def soak(programs, dock, count, workers):
+    programs.make_keys()
+    port = programs.sshd(["LogLevel ERROR"])
+    known = programs.write("known_hosts", f"[127.0.0.1]:{port} {programs.public('ssh-ed25519')}\n")
+    seen, began = collections.Counter(), time.monotonic()
+
+    def line(done):
+        rate = done / (time.monotonic() - began)
+        zeros = ", ".join(f"method {m}: {seen[m, '00 low']} low and {seen[m, '00 high']} high behind it" for m in (1, 4))
+        return f"soak: {done} of {count} exchanges, X begins 00 in {seen['00']} ({zeros}), 80 to ff in {seen['high']}; {rate:.0f} a second"
+
+    with concurrent.futures.ThreadPoolExecutor(workers) as pool:
+        work = [pool.submit(exchange, dock, port, known, (1, 4)[i % 2]) for i in range(count)]
+        try:
+            for done, one in enumerate(work, 1):
+                method, begins = one.result()
+                seen["high"] += begins[0] >= 0x80
+                if begins[0] == 0:
+                    seen["00"] += 1
+                    seen[method, "00 high" if begins[1] >= 0x80 else "00 low"] += 1
+                if done % SHOWN_EVERY == 0 and done < count:
+                    print(line(done), flush=True)
+        except BaseException:
+            for one in work:
+                one.cancel()
+            raise
+    print(line(count))
+    print("soak: no signature failed")
+
+
+def main():
+    options = argparse.ArgumentParser(description=__doc__.split("\n")[0])
+    options.add_argument("--dock", required=True)
+    options.add_argument("--count", type=int, default=2000)
+    options.add_argument("--workers", type=int, default=2)
+    options = options.parse_args()
+    with tempfile.TemporaryDirectory(prefix="soak-") as folder:
+        programs = Programs(folder)
+        try:
+            soak(programs, Dock(programs, options.dock), options.count, options.workers)
+        except (Failure, OSError, subprocess.SubprocessError) as e:
+            print(f"soak: FAILED: {e}", file=sys.stderr)
+            return 1
+        finally:
+            programs.stop_all()
+    return 0
+
+
+if __name__ == "__main__":
+    sys.exit(main())
