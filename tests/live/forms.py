@@ -5,7 +5,7 @@ import socket
 import subprocess
 
 from hostile import FAULT, KEX, SIGNER, Turn, against_client, judge
-from peer import BASE_U, EN, NEWKEYS, Ecdsa, Ed25519, Rsa, kexinit, number, packet, string, x25519
+from peer import BASE_U, EN, NEWKEYS, ODD_PRIMES, Ecdsa, Ed25519, Rsa, kexinit, number, packet, string, x25519
 from programs import Failure, need
 
 
@@ -90,15 +90,14 @@ def play(host_key, how):
 
 
 def all_forms(programs, dock):
-    # At 2,049 bits the modulus begins with a byte 1, so at least every second signature begins with a byte 0.
-    for name, bits in (("odd", "2049"), ("small", "1024")):
-        if not os.path.exists(programs.path(name)):
-            subprocess.run(["ssh-keygen", "-q", "-t", "rsa", "-b", bits, "-N", "", "-C", "", "-f", programs.path(name)], check=True)
-    keys = [Rsa(path) for path in (programs.key("rsa-sha2-256"), programs.path("odd"), programs.path("small"))]
+    small = programs.path("small")
+    if not os.path.exists(small):
+        subprocess.run(["ssh-keygen", "-q", "-t", "rsa", "-b", "1024", "-N", "", "-C", "", "-f", small], check=True)
+    keys = Rsa.of_file(programs.key("rsa-sha2-256")), Rsa(*ODD_PRIMES), Rsa.of_file(small)
     groups = [(b"ssh-ed25519", ed25519_forms()), (b"ecdsa-sha2-nistp256", ecdsa_forms()), (b"rsa-sha2-256", rsa_forms(*keys))]
     count = 0
     with socket.create_server(("127.0.0.1", 0)) as listener:
-        listener.settimeout(20)
+        listener.settimeout(60)
         for host_key, forms in groups:
             for holds, name, how in forms:
                 try:

@@ -85,6 +85,23 @@ def send_bad_padding(p, rng):
     p.send(struct.pack(">IB", length, padding) + bytes(length - 1))
 
 
+def refused_kexinit(p, rng):
+    """Each number that a choice can give, from a KEXINIT that is well-formed but for its cause."""
+    ed25519 = b"ssh-ed25519"
+    payload, number = rng.case([
+        (b"", 10), (kexinit(KEX, ed25519, languages=b",".join([b"y" * 60] * 70)), 10), (bytes([KEXINIT + 1]), 11),
+        (kexinit(KEX, ed25519)[:-1], 12), (kexinit(KEX, ed25519) + b"\0", 13), (kexinit(KEX + b",", ed25519), 19),
+        (kexinit(KEX, b"a b"), 19), (kexinit(b"n" * 65, ed25519), 19), (kexinit(KEX, ed25519, languages=b","), 19),
+        (kexinit(b"other," + b"n" * 64, ed25519), 20), (kexinit(b"", ed25519), 20), (kexinit(b"mlkem768x25519-sha256", ed25519), 20),
+        (kexinit(KEX, b"ssh-dss"), 21), (kexinit(KEX, b""), 21), (kexinit(b"ext-info-c", b""), 20)])
+    p.send(OWN + b"\r\n")
+    p.must = FAULT, number
+    p.send(packet(payload))
+    p.version()
+    p.read()
+    p.read()
+
+
 def garbage_version(p, rng):
     data, said = rng.case([
         (b"SSH-1.5-old\r\n", "not 2.0"), (b"SSH-2.0\n", "not 2.0"), (b"SSH-2.0-" + b"v" * 246 + b"\n", "too long"),
@@ -277,6 +294,7 @@ SERVERS = [
     (28, "signature wrong", wrong_signature), (40, "host key of another type", other_key_type),
     (15, "KEXINIT cut", changed_kexinit_of_server(cut)), (5, "KEXINIT longer", changed_kexinit_of_server(longer)),
     (40, "KEXINIT flipped", changed_kexinit_of_server(flipped)), (10, "KEXINIT renumbered", changed_kexinit_of_server(renumbered)),
+    (15, "KEXINIT refused", refused_kexinit),
     (18, "packet length", bad_packet_of_server(send_bad_length)), (10, "padding", bad_packet_of_server(send_bad_padding)),
     (18, "early close", server_closes), (22, "version line", garbage_version), (20, "words, then another message", words_then_wrong),
     (20, "DISCONNECT", server_disconnects), (6, "no NEWKEYS", no_newkeys_of_server),
@@ -370,6 +388,7 @@ CLIENTS = [
     (6, "point with another lead byte", init_of(lambda rng: bytes([rng.case([0, 2, 3, 5, 6, 7])]) + rng.randbytes(64), 15, NISTP256)),
     (6, "point off the curve", init_of(lambda rng: b"\4" + rng.case([bytes(64), rng.randbytes(64), b"\xff" * 64]), 16, NISTP256)),
     (8, "KEXINIT cut", changed_kexinit_of_client(cut)), (16, "KEXINIT flipped", changed_kexinit_of_client(flipped)),
+    (15, "KEXINIT refused", refused_kexinit),
     (18, "packet length", bad_packet_of_client(send_bad_length)), (10, "padding", bad_packet_of_client(send_bad_padding)),
     (10, "early close", client_closes), (22, "version line", garbage_version), (6, "no NEWKEYS", no_newkeys_of_client),
 ]
@@ -404,14 +423,14 @@ def connected(play, p, rng):
 
 
 def against_client(dock, play, rng, listener, *options):
-    process = dock.start("client", "127.0.0.1", listener.getsockname()[1], "--timeout", 10, *options)
+    process = dock.start("client", "127.0.0.1", listener.getsockname()[1], "--timeout", 40, *options)
     p = Server(listener.accept()[0])
     connected(play, p, rng)
     return (p, *dock.end(process))
 
 
 def against_server(dock, play, rng, *options):
-    process, port = dock.serve("--timeout", 10, *options)
+    process, port = dock.serve("--timeout", 40, *options)
     p = Client(socket.create_connection(("127.0.0.1", port)))
     connected(play, p, rng)
     return (p, *dock.end(process))
@@ -435,7 +454,7 @@ def slow_peers(dock, host_key):
 
     began = time.monotonic()
     with socket.create_server(("127.0.0.1", 0)) as listener:
-        listener.settimeout(20)
+        listener.settimeout(60)
         p, code, out, err = against_client(dock, silent, Turn("slow", 0), listener, "--timeout", 1)
         judge(p.must, code, out, err, p.seen)
         p, code, out, err = against_server(dock, trickling, Turn("slow", 0), "--host-key", host_key, "--timeout", 1)
@@ -470,7 +489,7 @@ def changed_replies(dock, seed, sshd_port, times=12):
     pairs = [(1, "ssh-ed25519"), (2, "ecdsa-sha2-nistp256"), (4, "ecdsa-sha2-nistp384"), (5, "ecdsa-sha2-nistp521"), (6, "rsa-sha2-256"),
              (4, "rsa-sha2-512")]
     with socket.create_server(("127.0.0.1", 0)) as listener:
-        listener.settimeout(20)
+        listener.settimeout(60)
         for method, host_key in pairs:
             options = "--methods", METHODS[method], "--host-keys", host_key
             try:
@@ -489,7 +508,7 @@ def all_sessions(dock, seed, host_key):
     """Every session of both sides; how many there were."""
     count = 0
     with socket.create_server(("127.0.0.1", 0), backlog=16) as listener:
-        listener.settimeout(20)
+        listener.settimeout(60)
         for side, kinds in (("server", SERVERS), ("client", CLIENTS)):
             for times, name, play in kinds:
                 for i in range(times):

@@ -22,7 +22,7 @@ from hostile import (FAULT, OWN, PUBLIC, SECRET, SIGNER, Turn, against_client, a
                      slow_peers)
 from peer import (DEBUG, IGNORE, INIT, NEWKEYS, REPLY, UNIMPLEMENTED, ed25519_holds, exchange_hash, kexinit, packet, string, take_string,
                   x25519)
-from programs import METHODS, Dock, Failure, Programs, need, results
+from programs import METHODS, Dock, Failure, Programs, end_on_signals, need, results
 
 EXTRAS_C = b",ext-info-c,kex-strict-c-v00@openssh.com"
 EXTRAS_S = b",ext-info-s,kex-strict-s-v00@openssh.com"
@@ -240,7 +240,7 @@ def guesses(programs, dock):
     ]
     rng = Turn("guesses", 0)
     with socket.create_server(("127.0.0.1", 0)) as listener:
-        listener.settimeout(20)
+        listener.settimeout(60)
         for i, (method, play) in enumerate(clients + servers):
             if i < len(clients):
                 p, *answer = against_server(dock, play, rng, "--host-key", programs.key("ssh-ed25519"))
@@ -279,6 +279,7 @@ def main():
     options.add_argument("--seed", default="live")
     options = options.parse_args()
     began = time.monotonic()
+    end_on_signals()
 
     with tempfile.TemporaryDirectory(prefix="live-") as folder:
         programs = Programs(folder)

@@ -38,10 +38,10 @@ def packet(payload, padding=None):
     return struct.pack(">IB", 1 + len(payload) + padding, padding) + payload + bytes(padding)
 
 
-def kexinit(kex, host_keys, follows=False, cookie=b"a test's cookie!"):
+def kexinit(kex, host_keys, follows=False, languages=b""):
     ciphers, macs = b"aes256-ctr,chacha20-poly1305@openssh.com", b"hmac-sha2-256"
-    lists = [kex, host_keys, ciphers, ciphers, macs, macs, b"none", b"none", b"", b""]
-    return bytes([KEXINIT]) + cookie + b"".join(map(string, lists)) + bytes([follows]) + bytes(4)
+    lists = [kex, host_keys, ciphers, ciphers, macs, macs, b"none", b"none", b"", languages]
+    return bytes([KEXINIT]) + b"a test's cookie!" + b"".join(map(string, lists)) + bytes([follows]) + bytes(4)
 
 
 def disconnect(reason, text=b""):
@@ -55,7 +55,7 @@ class Closed(Exception):
 class Peer:
     """One connection. Everything that comes in is kept in `seen`, to be judged as a whole at the end."""
 
-    def __init__(self, sock, timeout=20):
+    def __init__(self, sock, timeout=60):
         self.sock, self.seen, self.at = sock, b"", 0
         sock.settimeout(timeout)
         sock.setsockopt(socket.IPPROTO_TCP, socket.TCP_NODELAY, 1)
@@ -290,8 +290,20 @@ DIGEST_INFO = {"sha1": "3021300906052b0e03021a05000414", "sha256": "3031300d0609
                "sha512": "3051300d060960864801650304020305000440"}
 
 
+# Two primes whose product has 2,049 bits: three in four of its signatures begin with a byte 0.
+ODD_PRIMES = (2**1024 // 10 * 11 | 1) + 636, (2**1024 // 10 * 12 | 1) + 46
+
+
 class Rsa:
-    def __init__(self, path):
+    def __init__(self, p, q, e=65537):
+        self.p, self.q, self.e, self.n = p, q, e, p * q
+        self.d = pow(e, -1, (p - 1) * (q - 1))
+        self.inverse = pow(q, -1, p)
+        self.size = (self.n.bit_length() + 7) // 8
+        self.blob = string(b"ssh-rsa") + number(e) + number(self.n)
+
+    @classmethod
+    def of_file(cls, path):
         """The key of a file in OpenSSH's form."""
         with open(path) as f:
             rest = base64.b64decode("".join(f.read().split("\n")[1:-2]))[len(b"openssh-key-v1\0"):]
@@ -299,14 +311,11 @@ class Rsa:
             _, rest = take_string(rest)
         _, rest = take_string(rest[4:])
         rest = take_string(take_string(rest)[0][8:])[1]
-        parts = []
-        for _ in range(6):
+        numbers = []
+        for _ in range(6):  # n, e, d, inverse, p, q
             part, rest = take_string(rest)
-            parts.append(int.from_bytes(part, "big"))
-        self.n, self.e, _, self.inverse, self.p, self.q = parts
-        self.d = parts[2]
-        self.size = (self.n.bit_length() + 7) // 8
-        self.blob = string(b"ssh-rsa") + number(self.e) + number(self.n)
+            numbers.append(int.from_bytes(part, "big"))
+        return cls(numbers[4], numbers[5], numbers[1])
 
     def body(self, message, digest):
         end = bytes.fromhex(DIGEST_INFO[digest]) + hashlib.new(digest, message).digest()

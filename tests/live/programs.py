@@ -3,8 +3,10 @@ import base64
 import os
 import re
 import shutil
+import signal
 import socket
 import subprocess
+import sys
 import threading
 import time
 
@@ -37,9 +39,15 @@ def free_port():
         return s.getsockname()[1]
 
 
+def end_on_signals():
+    """A test that is told to stop stops what it started, too: the signal becomes an exception, and every `finally` runs."""
+    for number in (signal.SIGTERM, signal.SIGHUP, signal.SIGINT):
+        signal.signal(number, lambda number, frame: sys.exit(128 + number))
+
+
 class Programs:
     def __init__(self, folder):
-        self.folder, self.started, self.lock = folder, [], threading.Lock()
+        self.folder, self.started, self.lock, self.stopped = folder, [], threading.Lock(), False
 
     def path(self, name):
         return os.path.join(self.folder, name)
@@ -51,14 +59,16 @@ class Programs:
 
     def start(self, arguments, **more):
         """A process of its own group, so that stopping it stops its children too."""
-        process = subprocess.Popen(arguments, stdin=subprocess.DEVNULL, start_new_session=True, **more)
         with self.lock:
+            need(not self.stopped, "stopped")
+            process = subprocess.Popen(arguments, stdin=subprocess.DEVNULL, start_new_session=True, **more)
             self.started.append(process)
         return process
 
     def finished(self, process):
         with self.lock:
-            self.started.remove(process)
+            if process in self.started:
+                self.started.remove(process)
 
     def stop(self, process):
         if process.poll() is None:
@@ -71,7 +81,7 @@ class Programs:
 
     def stop_all(self):
         with self.lock:
-            left, self.started = self.started, []
+            left, self.started, self.stopped = self.started, [], True
         for process in left:
             self.stop(process)
 

@@ -15,7 +15,7 @@ import tempfile
 import time
 
 sys.dont_write_bytecode = True
-from programs import METHODS, Dock, Failure, Programs, need, results
+from programs import METHODS, Dock, Failure, Programs, end_on_signals, need, results
 
 SHOWN_EVERY = 250
 
@@ -54,6 +54,7 @@ def soak(programs, dock, count, workers):
         except BaseException:
             for one in work:
                 one.cancel()
+            programs.stop_all()
             raise
     print(line(count))
     print("soak: no signature failed")
@@ -65,6 +66,7 @@ def main():
     options.add_argument("--count", type=int, default=2000)
     options.add_argument("--workers", type=int, default=2)
     options = options.parse_args()
+    end_on_signals()
     with tempfile.TemporaryDirectory(prefix="soak-") as folder:
         programs = Programs(folder)
         try:
