@@ -11,7 +11,7 @@ import sys
 import tempfile
 
 sys.dont_write_bytecode = True
-from programs import METHODS, Dock, Failure, Programs, need, results
+from programs import METHODS, Dock, Failure, Programs, end_on_signals, need, results
 
 WORDS = "direction, message, its length, the core's number for the step, the room filled so far"
 
@@ -54,6 +54,7 @@ def main():
     parser = argparse.ArgumentParser(description=__doc__, formatter_class=argparse.RawDescriptionHelpFormatter)
     parser.add_argument("--dock", required=True)
     asked = parser.parse_args()
+    end_on_signals()
     with tempfile.TemporaryDirectory() as folder:
         programs = Programs(folder)
         try:
