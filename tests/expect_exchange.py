@@ -10,7 +10,8 @@ import hashlib
 import sys
 
 sys.dont_write_bytecode = True
-from pack_exchanges import ROOT, exchanges
+from held import ROOT, printed
+from pack_exchanges import exchanges
 
 lines = []
 
@@ -387,18 +388,7 @@ def captures():
 
 def main():
     captures()
-    text = "".join(each + "\n" for each in lines)
-    if sys.argv[1:] == ["--check"]:
-        path = ROOT / "crates/exchange_run/stdout"
-        if not path.exists() or path.read_text() != text:
-            print(f"expect_exchange: {path.relative_to(ROOT)} is not what is expected")
-            return 1
-        return 0
-    if sys.argv[1:]:
-        print(__doc__)
-        return 2
-    sys.stdout.write(text)
-    return 0
+    return printed(__doc__, "exchange_run", "".join(each + "\n" for each in lines))
 
 
 if __name__ == "__main__":

@@ -8,7 +8,8 @@ Prints it; with --check it compares with crates/in_place_run/stdout, and exits 1
 import sys
 
 sys.dont_write_bytecode = True
-from pack_exchanges import ROOT, exchanges
+from held import printed
+from pack_exchanges import exchanges
 
 lines = []
 
@@ -55,18 +56,7 @@ def main():
         lines.append(f"capture {i}")
         client(fields, length)
         server(length)
-    text = "".join(each + "\n" for each in lines)
-    if sys.argv[1:] == ["--check"]:
-        path = ROOT / "crates/in_place_run/stdout"
-        if not path.exists() or path.read_text() != text:
-            print(f"expect_in_place: {path.relative_to(ROOT)} is not what is expected")
-            return 1
-        return 0
-    if sys.argv[1:]:
-        print(__doc__)
-        return 2
-    sys.stdout.write(text)
-    return 0
+    return printed(__doc__, "in_place_run", "".join(each + "\n" for each in lines))
 
 
 if __name__ == "__main__":

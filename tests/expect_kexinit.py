@@ -10,7 +10,8 @@ import re
 import sys
 
 sys.dont_write_bytecode = True
-from pack_captures import ROOT, captures
+from held import printed
+from pack_captures import captures
 
 METHODS = [
     b"curve25519-sha256", b"curve25519-sha256@libssh.org", b"curve448-sha512", b"ecdh-sha2-nistp256", b"ecdh-sha2-nistp384",
@@ -294,14 +295,7 @@ def captured():
 def main():
     for group in (opening, booleans, name_lists, writing, filled, choices, refusals, captured):
         group()
-    expected = "\n".join(lines) + "\n"
-    if sys.argv[1:] == ["--check"]:
-        if (ROOT / "crates/kexinit_run/stdout").read_text() != expected:
-            print("expect_kexinit: crates/kexinit_run/stdout differs from what is expected")
-            return 1
-        return 0
-    sys.stdout.write(expected)
-    return 0
+    return printed(__doc__, "kexinit_run", "\n".join(lines) + "\n")
 
 
 if __name__ == "__main__":

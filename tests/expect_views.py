@@ -8,7 +8,8 @@ Prints it; with --check it compares with the end of crates/views_run/stdout, and
 import sys
 
 sys.dont_write_bytecode = True
-from pack_captures import ROOT, captures
+from held import printed
+from pack_captures import captures
 
 
 def counts(payload):
@@ -26,19 +27,7 @@ def main():
     for _, fields in captures():
         for name in ("I_C", "I_S"):
             lines.append("captured: " + " ".join(map(str, counts(bytes.fromhex(fields[name])))) + " equal\n")
-    text = "".join(lines)
-    if sys.argv[1:] == ["--check"]:
-        path = ROOT / "crates/views_run/stdout"
-        printed = path.read_text().splitlines(keepends=True) if path.exists() else []
-        if [line for line in printed if line.startswith("captured:")] != lines:
-            print(f"expect_views: {path.relative_to(ROOT)} has not what is expected")
-            return 1
-        return 0
-    if sys.argv[1:]:
-        print(__doc__)
-        return 2
-    sys.stdout.write(text)
-    return 0
+    return printed(__doc__, "views_run", "".join(lines), only="captured:")
 
 
 if __name__ == "__main__":

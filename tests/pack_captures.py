@@ -6,10 +6,11 @@ usage: pack_captures.py [--check]
 For each capture, sorted by name, I_C and then I_S, each behind four length bytes, the highest first. Writes
 data/payloads of both crates; with --check it only compares, and exits 1 where a file is stale.
 """
-import pathlib
 import sys
 
-ROOT = pathlib.Path(__file__).resolve().parent.parent
+sys.dont_write_bytecode = True
+from held import ROOT, packed
+
 PACKED = [ROOT / "crates" / crate / "data/payloads" for crate in ("kexinit_run", "views_run")]
 
 
@@ -19,7 +20,7 @@ def captures():
         yield path.stem, dict(line.split(" ", 1) for line in path.read_text().splitlines())
 
 
-def packed():
+def data():
     out = b""
     for _, fields in captures():
         for name in ("I_C", "I_S"):
@@ -29,18 +30,7 @@ def packed():
 
 
 def main():
-    if sys.argv[1:] == ["--check"]:
-        stale = [path for path in PACKED if not path.exists() or path.read_bytes() != packed()]
-        for path in stale:
-            print(f"pack_captures: {path.relative_to(ROOT)} is stale; run tests/pack_captures.py")
-        return 1 if stale else 0
-    if sys.argv[1:]:
-        print(__doc__)
-        return 2
-    for path in PACKED:
-        path.parent.mkdir(exist_ok=True)
-        path.write_bytes(packed())
-    return 0
+    return packed(__doc__, PACKED, data())
 
 
 if __name__ == "__main__":

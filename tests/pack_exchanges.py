@@ -7,10 +7,11 @@ For each capture, sorted by file name, fifteen fields, each behind four length b
 the method, a byte each; V_C, V_S, I_C, I_S, C, X, digest, K_S, S, INIT, REPLY, K; and the hash input's length in four bytes. Writes
 data/exchanges of both crates; with --check it only compares, and exits 1 where a file is stale.
 """
-import pathlib
 import sys
 
-ROOT = pathlib.Path(__file__).resolve().parent.parent
+sys.dont_write_bytecode = True
+from held import ROOT, packed
+
 PACKED = [ROOT / "crates" / crate / "data/exchanges" for crate in ("exchange_run", "in_place_run")]
 # What a program's buffer holds.
 MOST = 65536
@@ -30,7 +31,7 @@ def exchanges():
         yield path.name, ROLES[words["our_role"]], int(words["method"]), fields, int(words["hash_input_length"])
 
 
-def packed():
+def data():
     out = b""
     for _, role, method, fields, length in exchanges():
         parts = [bytes([role]), bytes([method]), *(fields[name] for name in NAMES), length.to_bytes(4, "big")]
@@ -41,18 +42,7 @@ def packed():
 
 
 def main():
-    if sys.argv[1:] == ["--check"]:
-        stale = [path for path in PACKED if not path.exists() or path.read_bytes() != packed()]
-        for path in stale:
-            print(f"pack_exchanges: {path.relative_to(ROOT)} is stale; run tests/pack_exchanges.py")
-        return 1 if stale else 0
-    if sys.argv[1:]:
-        print(__doc__)
-        return 2
-    for path in PACKED:
-        path.parent.mkdir(exist_ok=True)
-        path.write_bytes(packed())
-    return 0
+    return packed(__doc__, PACKED, data())
 
 
 if __name__ == "__main__":
