@@ -1,0 +1,59 @@
+-- Document 01's sizes, one table for every definition above. Assumes nothing.
+use Prim.Native.Nat.{ℕ}
+
+-- a version, V_C or V_S: at most so many bytes
+abbrev pub versionMost : ℕ
+versionMost = 253
+
+-- a KEXINIT payload, and I_C and I_S in the hash input
+abbrev pub kexinitMost : ℕ
+kexinitMost = 4096
+
+-- the payload of INIT or REPLY
+abbrev pub payloadMost : ℕ
+payloadMost = 32768
+
+-- K_S, and a signature
+abbrev pub blobMost : ℕ
+blobMost = 2048
+
+-- a name of a name-list
+abbrev pub nameMost : ℕ
+nameMost = 64
+
+-- a string's body: what its four length bytes can say
+abbrev pub stringMost : ℕ
+stringMost = 4294967295
+
+-- the cookie of a KEXINIT, and how many name-lists follow it
+abbrev pub cookieSize : ℕ
+cookieSize = 16
+
+abbrev pub listCount : ℕ
+listCount = 10
+
+-- the K record, and the least output for K
+abbrev pub kSize : ℕ
+kSize = 71
+
+-- the room, document 01's word for the buffer that is lent for the hash input: at least 32 + 506 + 8,192 + 2,048 + 3,330 + 48 bytes
+abbrev pub roomLeast : ℕ
+roomLeast = 14156
+
+-- the least outputs for INIT and for REPLY
+abbrev pub initLeast : ℕ
+initLeast = 1670
+
+abbrev pub replyLeast : ℕ
+replyLeast = 5774
+
+-- the methods are 1 to this
+abbrev pub methodLast : ℕ
+methodLast = 9
+
+-- the two roles
+abbrev pub client : ℕ
+client = 1
+
+abbrev pub server : ℕ
+server = 2

@@ -1,0 +1,56 @@
+// Document 01's sizes, one table for every layer above, and whether a number lies between two of them. specs/Limits.antt has the same
+// table for the contracts.
+ghost use mathlib.Core.Path.{_≡_};
+ghost use Rattle.limits.specs.Range.{within};
+
+// A version, without its line's end.
+pub const VERSION_MOST: usize = 253;
+
+// A KEXINIT payload, and one as it stands in the hash input.
+pub const KEXINIT_MOST: usize = 4096;
+
+// The payload of INIT or REPLY.
+pub const PAYLOAD_MOST: usize = 32768;
+
+// A host key, and a signature.
+pub const BLOB_MOST: usize = 2048;
+
+// A name of a name-list.
+pub const NAME_MOST: usize = 64;
+
+// A string's body: what its four length bytes can say.
+pub const STRING_MOST: usize = 4294967295;
+
+// The cookie of a KEXINIT, and how many name-lists follow it.
+pub const COOKIE_SIZE: usize = 16;
+
+pub const LISTS: usize = 10;
+
+// The K record, and the least output for K.
+pub const K_SIZE: usize = 71;
+
+// The least room that may be lent: 32 + 506 + 8,192 + 2,048 + 3,330 + 48 bytes.
+pub const ROOM_LEAST: usize = 14156;
+
+// The least outputs for INIT and for REPLY.
+pub const INIT_LEAST: usize = 1670;
+
+pub const REPLY_LEAST: usize = 5774;
+
+// The last method.
+pub const METHOD_LAST: u8 = 9;
+
+// The two roles.
+pub const CLIENT: u8 = 1;
+
+pub const SERVER: u8 = 2;
+
+// Whether n lies from lo to hi.
+pub fn in_range(lo: usize, hi: usize, n: usize) -> bool
+    ensures { λ r. ⌜ r ≡ within lo hi n ⌝ }
+{
+    if n < lo {
+        return false;
+    }
+    n <= hi
+}
