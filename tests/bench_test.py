@@ -1,10 +1,13 @@
 #!/usr/bin/env python3
-"""The bench as a program: document 01's examples through it, and what it does with lines that are none.
+"""The bench as a program: document 01's examples through it, each answer computed here, and what it does with lines that are none.
 
 usage: bench_test.py BENCH
 """
 import subprocess
 import sys
+
+sys.dont_write_bytecode = True
+from kexinit_cases import cases as kexinit_cases
 
 
 def run(bench, script, *words):
@@ -46,18 +49,25 @@ def server(method, c, x, s=None):
 
 
 def secrets():
-    """P1 to P7: X of 32 bytes in method 4, and K as the sign step writes it."""
-    point = b'\4' + bytes(64)
-    for x, k in [
+    """P1 to P7: X of 32 bytes in method 4, and K as the sign step writes it; then the longest X, of method 6."""
+    p256, p521 = b'\4' + bytes(64), b'\4' + bytes(132)
+    short = [
         (bytes(31) + b'\1', '0000000101'),
         (bytes(32), '00000000'),
         (b'\x7f' + bytes(31), '00000020' + '7f' + '00' * 31),
         (b'\x80' + bytes(31), '00000021' + '0080' + '00' * 31),
         (b'\0\x7f' + bytes(30), '0000001f' + '7f' + '00' * 30),
         (b'\0\x80' + bytes(30), '00000020' + '0080' + '00' * 30),
-    ]:
+    ]
+    long = [
+        (bytes(66), '00000000'),
+        (b'\x7f' + b'\xee' * 65, '00000042' + '7f' + 'ee' * 65),
+        (b'\x80' + b'\xee' * 65, '00000043' + '0080' + 'ee' * 65),
+        (b'\0\x80' + b'\xee' * 64, '00000042' + '0080' + 'ee' * 64),
+    ]
+    for method, point, x, k in [(4, p256, *case) for case in short] + [(6, p521, *case) for case in long]:
         k = bytes.fromhex(k)
-        lines = server(4, point, x) + ['sign 73 00*5774 00*71']
+        lines = server(method, point, x) + ['sign 73 00*5774 00*71']
         reply = bytes([31]) + string(b'k') + string(point) + string(b's')
         hashed = 2 * len(string(b'a')) + 2 * len(string(b'\x14')) + len(string(b'k')) + 2 * len(string(point)) + len(k)
         yield lines, ['0', '0', '0 5:', f'0 {hashed} |',
@@ -70,43 +80,72 @@ def secrets():
     yield lines, ['0', '0', '0', '16 0 | ex 2.9.failed.16.0,0,0,0,0,0,0']
 
 
+# RFC 4251, section 5, longer forms of its numbers, and P8 and P9: two's complement bytes, and the body that is written
+MPINTS = [
+    ('-', ''), ('09a378f9b2e332a7', '09a378f9b2e332a7'), ('80', '80'), ('0080', '0080'), ('edcc', 'edcc'), ('ff21524111', 'ff21524111'),
+    ('000000', ''), ('00000080', '0080'), ('ffffffedcc', 'edcc'), ('ffffff', 'ff'), ('ff80', '80'), ('ffff7f', 'ff7f'), ('ff7f', 'ff7f'),
+]
+
+
+def mpints():
+    """Written into 16 bytes, and read again from there."""
+    for number, body in MPINTS:
+        body = bytes.fromhex(body)
+        rest = b'\x55' * (12 - len(body))
+        written = string(body) + rest
+        sign = 0 if not body else -1 if body[0] & 128 else 1
+        yield f'wmpint {number} 55*16', f'0 {4 + len(body)} {out(written)}'
+        yield f'rmpint {h(written)}', f'0 {sign} 4:{h(body)} {4 + len(body)}:{h(rest)}'
+
+
 def codecs():
-    for line, want in [
-        ('wmpint 80 00*10', '0 5 ' + out(bytes.fromhex('0000000180') + bytes(5))),                   # P8
-        ('wmpint ff7f 00*10', '0 6 ' + out(bytes.fromhex('00000002ff7f') + bytes(4))),                # P9
-        ('rmpint 00000002007f', '22 0 0:- 0:-'),                                                      # P10
-        ('wstr 6162 00*10', '0 6 ' + out(bytes.fromhex('000000026162') + bytes(4))),                  # P11
-        # RFC 4251, section 5
-        ('rmpint 00000000', '0 0 4:- 4:-'),
-        ('rmpint 0000000809a378f9b2e332a7', '0 1 4:09a378f9b2e332a7 12:-'),
-        ('rmpint 000000020080', '0 1 4:0080 6:-'),
-        ('rmpint 00000002edcc', '0 -1 4:edcc 6:-'),
-        ('rmpint 00000005ff21524111', '0 -1 4:ff21524111 9:-'),
-        # a length that wraps where 4 is added in 32 bits
-        ('rstr fffffffd6162', '12 0:- 0:-'),
-        ('rstr -', '12 0:- 0:-'),
-        # an output a byte too short stays
-        ('wstr 6162 07*5', '5 0 ' + out(b'\7' * 5)),
-        # KEXINIT with ten empty lists
-        ('open 14' + '00' * 61 + ' 1', '0 1:' + '00' * 16 + ' 0 0'),
-        ('open 14' + '00' * 60 + ' 1', '12 0:- 0 0'),
-        ('open 14' + '00' * 62 + ' 1', '13 0:- 0 0'),
-        ('open 14' + '00' * 61 + ' 11', '4 0:- 0 0'),
-        ('next', '0 end'),
-        ('wkex ' + '00' * 16 + ' - - - - - - - - - - 0 0 00*62', '0 62 ' + out(b'\x14' + bytes(61))),
-        ('wkex ' + '00' * 16 + ' - - - - - - - - - - 1 7 00*61', '5 0 ' + out(bytes(61))),
-        ('wkex ' + '00' * 15 + ' - - - - - - - - - - 1 7 00*62', '4 0 ' + out(bytes(62))),
-        ('wkex ' + '00' * 16 + ' 612c - - - - - - - - - 1 7 00*99', '4 0 ' + out(bytes(99))),
-    ]:
-        yield [line], [want]
+    yield from mpints()
+    # mpint bodies that could be shorter, P10 among them, and some that could not; 12 before 22
+    for body in ('0001', '007f', 'ffff', 'ff80', '00'):
+        yield f'rmpint {len(body) // 2:08x}{body}01', '22 0 0:- 0:-'
+    for body, sign in (('0080', 1), ('ff7f', -1), ('ff', -1), ('7f', 1), ('80', -1)):
+        n = len(body) // 2
+        yield f'rmpint {n:08x}{body}01', f'0 {sign} 4:{body} {4 + n}:01'
+    yield 'rmpint 0000000001', '0 0 4:- 4:01'
+    yield 'rmpint 0000000200', '12 0 0:- 0:-'
+    # strings, cut ones, and lengths that wrap where 4 is added in 32 bits
+    yield from [('rstr 00000000', '0 4:- 4:-'), ('rstr 000000026162', '0 4:6162 6:-'), ('rstr 0000000261626364', '0 4:6162 6:6364')]
+    lying = [f'{n:08x}616263' for n in (2**32 - 5, 2**32 - 4, 2**32 - 3, 2**32 - 2, 2**32 - 1, 2**31)]
+    for s in ('-', '000000', '000000036162', '0000000261', 'fffffffd6162', *lying):
+        yield f'rstr {s}', '12 0:- 0:-'
+    # outputs: just long enough, longer, a byte too short
+    for body, size in ((b'ab', 6), (b'ab', 8), (b'ab', 10), (b'', 4), (b'abcd', 8)):                   # P11 among them
+        yield f'wstr {h(body)} 55*{size}', f'0 {4 + len(body)} {out((string(body)).ljust(size, bytes([0x55])))}'
+    for body, size in ((b'ab', 5), (b'', 3)):
+        yield f'wstr {h(body)} 55*{size}', f'5 0 {out(bytes([0x55]) * size)}'
+
+
+def kexinits():
+    """KEXINIT with ten empty lists: 61, 62 and 63 bytes, and its writer; then the cases of kexinit_cases."""
+    yield 'open 14' + '00' * 60 + ' 1', '12 0:- 0 0'
+    yield 'open 14' + '00' * 61 + ' 1', '0 1:' + '00' * 16 + ' 0 0'
+    yield 'open 14' + '00' * 62 + ' 1', '13 0:- 0 0'
+    yield 'wkex ' + '00' * 16 + ' - - - - - - - - - - 0 0 00*62', '0 62 ' + out(b'\x14' + bytes(61))
+    yield from kexinit_cases(out)
+
+
+def lists():
+    """Calls that need no start, each with its whole answer."""
+    for cases in (codecs(), kexinits()):
+        yield [list(words) for words in zip(*cases)]
 
 
 def exchanges():
     room = 'room 00*14156'
+    # room 14,155 and 14,156
     yield ['room 00*14155', 'start 1 1 61 62 14 14'], ['0', '3 | ex 0.0.failed.3.']
-    yield [room, 'start 1 1 61*253 62 14 14'], ['0', '0 | ex 1.1.started.0.253,1,1,1,0,0,0']
+    yield [room, 'start 1 1 61 62 14 14'], ['0', '0 | ex 1.1.started.0.1,1,1,1,0,0,0']
+    # V_C and V_S of 253 bytes, and of 254
+    yield [room, 'start 1 1 61*253 62*253 14 14'], ['0', '0 | ex 1.1.started.0.253,253,1,1,0,0,0']
     yield [room, 'start 1 1 61*254 62 14 14'], ['0', '4 | ex 0.0.failed.4.']
+    yield [room, 'start 1 1 61 62*254 14 14'], ['0', '4 | ex 0.0.failed.4.']
     yield [room, 'start 3 1 61 62 14 14'], ['0', '2 | ex 0.0.failed.2.']
+    # C of 31 and 33 in method 1
     for n in (31, 33):
         payload = h(bytes([30]) + string(bytes(n)))
         yield [room, 'start 2 1 61 62 14 14', f'init {payload}', f'init {payload}'], [
@@ -136,12 +175,14 @@ def main():
             failed.append(f'{what}: {have!r}, not {want!r}')
 
     count = 0
-    for lines, wants in [*secrets(), *codecs(), *exchanges()]:
+    steps = [(lines, wants, str.startswith) for lines, wants in [*secrets(), *exchanges()]]
+    whole = [(lines, wants, str.__eq__) for lines, wants in lists()]
+    for lines, wants, holds in steps + whole:
         status, answers, errors = run(bench, '\n'.join(lines) + '\n')
-        held(lines, (status, len(answers), errors), (0, len(wants), []))
+        held(lines[0], (status, len(answers), errors), (0, len(wants), []))
         for line, answer, want in zip(lines, answers, wants):
             count += 1
-            if not answer.startswith(want):
+            if not holds(answer, want):
                 failed.append(f'{line[:80]}: {answer[:120]}, not {want[:120]}')
     for line in BAD:
         status, answers, errors = run(bench, f'# a comment\n\nrstr 00000000\n{line}\nrstr 00000000\n')
