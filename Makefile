@@ -19,11 +19,7 @@ test: vectors
 
 # What the programs read and what they must print, held to the captures and to an account of the documents of its own.
 vectors:
-	python3 tests/pack_captures.py --check
-	python3 tests/expect_kexinit.py --check
 	python3 tests/expect_views.py --check
-	python3 tests/pack_exchanges.py --check
-	python3 tests/expect_exchange.py --check
 	python3 tests/expect_in_place.py --check
 
 # The static library: proved first (some three minutes from nothing), and left alone where it did not change.

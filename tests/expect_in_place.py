@@ -1,62 +1,75 @@
 #!/usr/bin/env python3
-"""What the program in_place_run has to print, computed from tests/captures and document 01's table of numbers.
+"""What the program in_place_run reads and has to print: a captured exchange of method 9 in both roles, by document 01.
 
 usage: expect_in_place.py [--check]
 
-Prints it; with --check it compares with crates/in_place_run/stdout, and exits 1 on a difference.
+Writes crates/in_place_run/stdin and stdout; with --check it only compares, and exits 1 where one is stale.
 """
 import sys
 
 sys.dont_write_bytecode = True
-from held import printed
-from pack_exchanges import exchanges
+from captures import capture, string
+from held import ROOT, written
 
+FIELDS = ("V_C", "V_S", "I_C", "I_S", "C", "X", "digest", "K_S", "S", "INIT", "REPLY")
+STARTED = ("V_C", "V_S", "I_C", "I_S")
+HASHED = (*STARTED, "K_S", "C", "S")
+
+f = capture("client-9-openssh-10.0")
+room = bytearray(b"\x55" * 14156)
 lines = []
 
 
+def laid(names, k=b""):
+    """The room begins with these fields, and its rest stays."""
+    data = b"".join(string(f[name]) for name in names) + k
+    room[: len(data)] = data
+    return len(data)
+
+
+def checksum(data):
+    h = 0
+    for x in data:
+        h = (h * 257 + x + 1) % 65521
+    return h
+
+
 def call(name, number, count=0):
-    lines.append(f"{name} {number} {count} 0 equal")
+    lines.append(f"{name} {number} {count} {checksum(room)}\n")
 
 
-def secrets(length):
-    call("secret", 4)
-    call("secret", 0, length)
+def client():
+    laid((*STARTED, "C"))
+    call("INIT", 1)
+    laid(HASHED)
+    call("REPLY", 0)
+    call("secret", 0, laid(HASHED, f["K"]))
+    call("verdict", 0, len(f["K"]))
+    lines.append(f"K {checksum(f['K'].ljust(71, bytes(1)))}\n")
+
+
+def server():
+    laid(STARTED)
+    laid((*STARTED, "C"))
+    call("INIT", 0)
+    call("secret", 0, laid(HASHED, f["K"]))
+
+
+def fault():
+    """A REPLY for an INIT."""
+    room[:] = bytes(len(room))
+    call("INIT", 11)
     call("secret", 1)
 
 
-def client(fields, length):
-    call("start", 0)
-    call("own C", 0, len(fields["INIT"]))
-    call("INIT", 1)
-    call("REPLY", 0)
-    call("REPLY", 1)
-    secrets(length)
-    call("verdict", 0, len(fields["K"]))
-    call("verdict", 1)
-    call("verdict", 18)
-    call("start", 0)
-    call("own C", 0, len(fields["INIT"]))
-    call("REPLY", 11)
-    call("REPLY", 1)
-
-
-def server(length):
-    call("start", 0)
-    call("REPLY", 1)
-    call("INIT", 0)
-    call("INIT", 1)
-    secrets(length)
-    call("start", 0)
-    call("INIT", 11)
-    call("INIT", 1)
-
-
 def main():
-    for i, (_, _, _, fields, length) in enumerate(exchanges(), 1):
-        lines.append(f"capture {i}")
-        client(fields, length)
-        server(length)
-    return printed(__doc__, "in_place_run", "".join(each + "\n" for each in lines))
+    for play in (client, server, fault):
+        play()
+    folder = ROOT / "crates/in_place_run"
+    return written(__doc__, {
+        folder / "stdin": b"".join(string(f[name]) for name in FIELDS),
+        folder / "stdout": "".join(lines).encode(),
+    })
 
 
 if __name__ == "__main__":

@@ -1,33 +1,57 @@
 #!/usr/bin/env python3
-"""What the program views_run has to print of the captured payloads: the number of names in each of the ten lists.
+"""What the program views_run reads and has to print: the names of every list of three payloads, by RFC 4253, section 7.1.
 
 usage: expect_views.py [--check]
 
-Prints it; with --check it compares with the end of crates/views_run/stdout, and exits 1 on a difference.
+Writes crates/views_run/stdin and stdout; with --check it only compares, and exits 1 where one is stale. The payloads: a captured one, a
+made one with an empty list and bad names, and the same with another message number.
 """
+import re
 import sys
 
 sys.dont_write_bytecode = True
-from held import printed
-from pack_captures import captures
+from captures import capture, string
+from held import ROOT, written
+
+LISTS = [b"one,two,three", b"good,b\x20d,good", b"", b"d,", b"e", b",f", b"g" * 64, b"h" * 65, b"i,,i", b"last"]
 
 
-def counts(payload):
-    """How many names each list of a KEXINIT has."""
-    at = 17
+def made():
+    return b"\x14" + b"0123456789abcdef" + b"".join(map(string, LISTS)) + b"\x01" + bytes([0, 0, 0, 7])
+
+
+def lists(payload):
+    """The ten lists, or the number of a refusal."""
+    if payload[0] != 20:
+        return 11
+    at, out = 17, []
     for _ in range(10):
         length = int.from_bytes(payload[at : at + 4], "big")
-        names = payload[at + 4 : at + 4 + length]
-        yield names.count(b",") + 1 if names else 0
+        out.append(payload[at + 4 : at + 4 + length])
         at += 4 + length
+    return out
+
+
+def line(payload, n):
+    """An opening: its number, the names, the number where they stop. A refused one yields only the end."""
+    found = lists(payload)
+    number = 4 if not 1 <= n <= 10 else 11 if found == 11 else 0
+    names, stop = [], 0
+    for name in found[n - 1].split(b",") if number == 0 and found[n - 1] else []:
+        if not re.fullmatch(rb"[!-+\--~]{1,64}", name):
+            stop = 19
+            break
+        names.append(name.decode() + " ")
+    return f"{n}: {number} {''.join(names)}{stop} equal\n"
 
 
 def main():
-    lines = []
-    for _, fields in captures():
-        for name in ("I_C", "I_S"):
-            lines.append("captured: " + " ".join(map(str, counts(bytes.fromhex(fields[name])))) + " equal\n")
-    return printed(__doc__, "views_run", "".join(lines), only="captured:")
+    payloads = [capture("guess-1-dropbear-2025.89")["I_C"], made(), b"\x15" + made()[1:]]
+    folder = ROOT / "crates/views_run"
+    return written(__doc__, {
+        folder / "stdin": b"".join(map(string, payloads)),
+        folder / "stdout": "".join(line(payload, n) for payload in payloads for n in range(12)).encode(),
+    })
 
 
 if __name__ == "__main__":

@@ -5,10 +5,10 @@ use Rattle.views_run.proofs.walked.Statement.{statement}
 use Rattle.views_run.proofs.walked.Tie as tie
 
 abbrev Inv-loop : tie.InvT-loop
-Inv-loop payload c₀ k₀ c k = k ≤ 5000
+Inv-loop payload a₀ b₀ k₀ a b k = k ≤ 100
 
 abbrev μ-loop : tie.MeasureT-loop
-μ-loop payload c₀ k₀ c k = 5000 - k
+μ-loop payload a₀ b₀ k₀ a b k = 100 - k
 
 loop-holds : tie.Need-loop-holds Inv-loop μ-loop
 loop-holds c = search needs
@@ -25,8 +25,17 @@ same-next-requires c κs = search needs
 returns : tie.Need-returns Inv-loop μ-loop
 returns c = search needs
 
+cast-decimal : tie.Need-cast-decimal Inv-loop μ-loop
+cast-decimal c = search needs
+
+decimal-requires : tie.Need-decimal-requires Inv-loop μ-loop
+decimal-requires c κs = search needs
+
 returns-2 : tie.Need-returns-2 Inv-loop μ-loop
 returns-2 c = search needs
+
+put-name-requires : tie.Need-put-name-requires Inv-loop μ-loop
+put-name-requires c κs = search needs
 
 add-k : tie.Need-add-k Inv-loop μ-loop
 add-k c = search needs
@@ -51,7 +60,10 @@ walked-spec =
     next-name-requires
     same-next-requires
     returns
+    cast-decimal
+    decimal-requires
     returns-2
+    put-name-requires
     add-k
     loop-less
     loop-again
