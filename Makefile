@@ -1,5 +1,5 @@
 # Two commands for a newcomer: `make demo` runs what there is, `make test` is the gate. `make lib` leaves the static library in build/.
-.PHONY: demo test vectors needs lib bench dock host host-test soak measure
+.PHONY: demo test vectors needs lib bench dock host host-test c-test rust-test bench-test differ-test live-test soak measure
 
 WARN = -Wall -Wextra -Werror -pedantic -O2 -Iinclude
 CARGO = cargo --offline --quiet
@@ -11,23 +11,18 @@ SEED = 20261115
 demo: dock
 	@python3 tests/live/demo.py --dock build/dock
 
-# The layout and the vectors first, then the library and its hosts, then the proofs from nothing, the must-fail edits and the programs.
-test: vectors
-	rt fmt --check
-	$(MAKE) --no-print-directory host-test
-	rt ci
+# The gate. Its last line is that of rt ci, printed where all else passed too.
+test:
+	@sh tests/gate.sh
 
 # What the programs read and what they must print, held to the captures and to an account of the documents of its own.
 vectors:
 	python3 tests/expect_views.py --check
 	python3 tests/expect_in_place.py --check
 
-# The static library: proved first (some three minutes from nothing), and left alone where it did not change.
+# The static library: proved first (some three minutes from nothing), and left alone where nothing that it is made of changed.
 lib:
-	@mkdir -p build
-	@echo "lib: the library, proved before it is built (some three minutes from nothing)"
-	@rt staticlib boundary > build/staticlib.log 2>&1 || { tail -40 build/staticlib.log; echo "lib: not proved, see build/staticlib.log"; exit 1; }
-	@cmp -s target/staticlib/libboundary.a $(LIB) || cp target/staticlib/libboundary.a $(LIB)
+	@sh host/lib.sh $(LIB)
 
 # What a host on OpenSSL and its tests need of Debian's packages, installed where it is missing.
 PACKAGES = libssl-dev openssh-client openssh-server
@@ -55,19 +50,29 @@ host: bench dock
 	cd host && $(CARGO) build --release && $(CARGO) build --release --examples
 
 # The compiled library: its header, its hosts, and every answer against the plain implementation of document 01.
-host-test: host
+host-test: c-test rust-test bench-test differ-test live-test
+
+c-test: host
 	build/host/header_c && build/host/header_cc && build/host/header_san
 	build/host/example && build/host/example_san
+
+rust-test: host
 	cd host && $(CARGO) test
 	$(RUST)/examples/exchange
 	$(RUST)/captures tests/captures
-	$(RUST)/differ --seed $(SEED)
+
+bench-test: host
 	python3 tests/bench_test.py build/bench
 	$(RUST)/script $(SEED) 3000 2000 > build/host/script
 	$(RUST)/plain_bench < build/host/script > build/host/answers
 	build/bench < build/host/script > build/host/ours && cmp build/host/ours build/host/answers
 	build/host/bench_san < build/host/script > build/host/ours && cmp build/host/ours build/host/answers
 	@echo "bench: $$(wc -l < build/host/answers) answers as the plain implementation gives them, also under the sanitizers"
+
+differ-test: host
+	$(RUST)/differ --seed $(SEED)
+
+live-test: host
 	python3 tests/live/live.py --dock build/dock --dock-asan build/host/dock_san
 
 # Longer runs: exchanges with a real sshd, and the library against the plain implementation, with another seed each time.

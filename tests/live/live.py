@@ -275,7 +275,7 @@ def part(name, work, *arguments):
 def main():
     options = argparse.ArgumentParser(description=__doc__.split("\n")[0])
     options.add_argument("--dock", required=True)
-    options.add_argument("--dock-asan")
+    options.add_argument("--dock-asan", help="dock under the sanitizers, which then meets the hostile peers")
     options.add_argument("--seed", default="live")
     options = options.parse_args()
     began = time.monotonic()
@@ -295,9 +295,10 @@ def main():
                     part("1, client against sshd", as_client, programs, dock, sshd)
                     part("2, server for ssh", as_server, programs, dock)
                     part("5, guessed packets", guesses, programs, dock)
-                    part("4, hostile peers", hostile_peers, programs, dock, options.seed, sshd)
                     if options.dock_asan:
-                        part("4, hostile peers, sanitizers", hostile_peers, programs, Dock(programs, options.dock_asan), options.seed, sshd)
+                        part("4, hostile peers, under the sanitizers", hostile_peers, programs, Dock(programs, options.dock_asan), options.seed, sshd)
+                    else:
+                        part("4, hostile peers", hostile_peers, programs, dock, options.seed, sshd)
                     for (method, begins), draw in zip(BEGINNINGS, draws):
                         try:
                             draw.result()
