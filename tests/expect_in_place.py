@@ -8,7 +8,7 @@ Writes crates/in_place_run/stdin and stdout; with --check it only compares, and 
 import sys
 
 sys.dont_write_bytecode = True
-from captures import capture, string
+from captured import capture, string
 from held import ROOT, written
 
 FIELDS = ("V_C", "V_S", "I_C", "I_S", "C", "X", "digest", "K_S", "S", "INIT", "REPLY")

@@ -10,7 +10,7 @@ import re
 import sys
 
 sys.dont_write_bytecode = True
-from captures import capture, string
+from captured import capture, string
 from held import ROOT, written
 
 LISTS = [b"one,two,three", b"good,b\x20d,good", b"", b"d,", b"e", b",f", b"g" * 64, b"h" * 65, b"i,,i", b"last"]
