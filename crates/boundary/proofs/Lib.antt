@@ -1,1 +1,1 @@
-pub mod ExportLaws
+pub mod SizeLaws

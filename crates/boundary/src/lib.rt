@@ -2,7 +2,6 @@
 // value as a record of numbers. A record that no exchange has is answered 1 and handed back as it was.
 use choice::Choice;
 use kexinit::Opened;
-use methods::KForm;
 use mpint::MpintRead;
 use names::Cursor;
 use names::Next;
@@ -10,24 +9,24 @@ use records::Answer;
 use records::Record;
 use wire::Part;
 use wire::StringRead;
-use wire::Written;
+use writers::Written;
 ghost use mathlib.Core.Path.{_≡_};
 ghost use mathlib.Core.List.{[], _∷_};
 ghost use lib.ListN.{length};
-ghost use Rattle.wire.specs.Strings.{string, readString, stringCause};
-ghost use Rattle.wire.specs.Writers.{wrote, leaves};
+ghost use Rattle.wire.specs.Strings.{string, readString};
+ghost use Rattle.writers.specs.Writers.{wrote, leaves, stringCause};
 ghost use Rattle.mpint.specs.Mpint.{shortest, mpint, readMpint};
 ghost use Rattle.methods.specs.Rows.{numberOf};
 ghost use Rattle.names.specs.Cursor.{nextName};
-ghost use Rattle.kexinit.specs.Message.{message, kexinit, writeCause};
+ghost use Rattle.proposal.specs.Proposal.{kexinitOf, kexinit, writeCause};
 ghost use Rattle.kexinit.specs.Reader.{openList};
-ghost use Rattle.choice.specs.Common.{any};
+ghost use Rattle.common.specs.Common.{any};
 ghost use Rattle.choice.specs.Choice.{chosen};
 ghost use Rattle.messages.specs.Messages.{initBytes};
-ghost use Rattle.exchange.specs.Causes.{hybrid};
 ghost use Rattle.exchange.specs.Steps.{ownC, init, reply, secret as secretStep, sign as signStep, verdict as verdictStep, number, answered, replyOf, roomAfter, outputAfter, stepPart, started, startedRoom};
 ghost use Rattle.records.specs.Record.{openedOf, stepAnswer, classicalOf, kemOf};
-ghost use Rattle.boundary.specs.Exports.{answerOf, bufferBy, partBy, sizesOf};
+ghost use Rattle.on_record.specs.Exports.{exported, bufferBy, partBy};
+ghost use Rattle.boundary.specs.Sizes.{sizesOf};
 
 // A method's sizes and rules; all 0 for a number that is no method.
 #[repr(C)]
@@ -57,7 +56,7 @@ pub extern "C" fn castulfrisa_read_string(s: &[u8]) -> StringRead
 pub extern "C" fn castulfrisa_write_string(out: &mut [u8], body: &[u8]) -> Written
     ensures { λ r. ⌜ (r ≡ wrote (stringCause (length (now (out .entry))) (now (body .entry))) (string (now (body .entry)))) × (now (out .exit) ≡ leaves (stringCause (length (now (out .entry))) (now (body .entry))) (string (now (body .entry))) (now (out .entry))) ⌝ }
 {
-    wire::write_string(out, body)
+    writers::write_string(out, body)
 }
 
 // The mpint at the front of s.
@@ -86,16 +85,6 @@ pub extern "C" fn castulfrisa_method_number(name: &[u8]) -> u8
     methods::number_of(name)
 }
 
-// Whether K has a hybrid's form.
-fn is_hybrid(form: KForm) -> bool
-    ensures { λ r. ⌜ r ≡ hybrid form ⌝ }
-{
-    match form {
-        KForm::Mpint => false,
-        KForm::Digest => true,
-    }
-}
-
 // The sizes of a method, all 0 for a number that is none.
 #[no_mangle]
 pub extern "C" fn castulfrisa_method_sizes(method: u8) -> Sizes
@@ -110,7 +99,7 @@ pub extern "C" fn castulfrisa_method_sizes(method: u8) -> Sizes
         s_classical: m.s.classical,
         x_len: m.x_len,
         digest_len: m.digest_len,
-        hybrid: is_hybrid(form),
+        hybrid: methods::is_hybrid(form),
         zero_check: m.zero_check,
     }
 }
@@ -152,10 +141,10 @@ pub extern "C" fn castulfrisa_write_kexinit(
     reserved: u32,
 ) -> Written
     ensures { λ r.
-        let k = message (now (cookie .entry)) (now (kex .entry) ∷ now («host_key» .entry) ∷ now («cipher_in» .entry) ∷ now («cipher_out» .entry) ∷ now («mac_in» .entry) ∷ now («mac_out» .entry) ∷ now («compression_in» .entry) ∷ now («compression_out» .entry) ∷ now («language_in» .entry) ∷ now («language_out» .entry) ∷ []) follows reserved in
+        let k = kexinitOf (now (cookie .entry)) (now (kex .entry) ∷ now («host_key» .entry) ∷ now («cipher_in» .entry) ∷ now («cipher_out» .entry) ∷ now («mac_in» .entry) ∷ now («mac_out» .entry) ∷ now («compression_in» .entry) ∷ now («compression_out» .entry) ∷ now («language_in» .entry) ∷ now («language_out» .entry) ∷ []) follows reserved in
         ⌜ (r ≡ wrote (writeCause (length (now (out .entry))) k) (kexinit k)) × (now (out .exit) ≡ leaves (writeCause (length (now (out .entry))) k) (kexinit k) (now (out .entry))) ⌝ }
 {
-    kexinit::write_kexinit(
+    proposal::write_kexinit(
         out,
         cookie,
         kex,
@@ -196,8 +185,7 @@ pub extern "C" fn castulfrisa_start(
 ) -> Answer
     ensures { λ r. ⌜ (r ≡ stepAnswer (started role method (now (vc .entry)) (now (vs .entry)) (now (ic .entry)) (now (is .entry)) (length (now (room .entry))))) × (now (room .exit) ≡ startedRoom role method (now (vc .entry)) (now (vs .entry)) (now (ic .entry)) (now (is .entry)) (now (room .entry))) ⌝ }
 {
-    let s = steps::start(role, method, vc, vs, ic, is, room);
-    records::answer_of(s)
+    on_record::start(role, method, vc, vs, ic, is, room)
 }
 
 // Client, own C.
@@ -205,16 +193,10 @@ pub extern "C" fn castulfrisa_start(
 pub extern "C" fn castulfrisa_own_c(r: Record, room: &mut [u8], c: &[u8], out: &mut [u8]) -> Answer
     ensures { λ a.
         let e = openedOf r .exchange in
-        let q = ownC (now (c .entry)) (now (out .entry)) in
-        ⌜ (a ≡ answerOf r (answered e (now (room .entry)) q)) × (now (room .exit) ≡ bufferBy r (roomAfter e (now (room .entry)) q) (now (room .entry))) × (now (out .exit) ≡ bufferBy r (outputAfter (number e (now (room .entry)) q) (now (out .entry)) (initBytes (now (c .entry)))) (now (out .entry))) ⌝ }
+        let q = ownC (now (c .entry)) (length (now (out .entry))) in
+        ⌜ (a ≡ exported r (answered e (now (room .entry)) q)) × (now (room .exit) ≡ bufferBy r (roomAfter e (now (room .entry)) q) (now (room .entry))) × (now (out .exit) ≡ bufferBy r (outputAfter (number e (now (room .entry)) q) (now (out .entry)) (initBytes (now (c .entry)))) (now (out .entry))) ⌝ }
 {
-    let t = records::open_record(r);
-    if t.fits {
-        let e = t.exchange;
-        let s = steps::own_c(e, room, c, out);
-        return records::answer_of(s);
-    }
-    records::refuse(r)
+    on_record::own_c(r, room, c, out)
 }
 
 // Server, INIT read.
@@ -223,15 +205,9 @@ pub extern "C" fn castulfrisa_read_init(r: Record, room: &mut [u8], payload: &[u
     ensures { λ a.
         let e = openedOf r .exchange in
         let q = init (now (payload .entry)) in
-        ⌜ (a ≡ answerOf r (answered e (now (room .entry)) q)) × (now (room .exit) ≡ bufferBy r (roomAfter e (now (room .entry)) q) (now (room .entry))) ⌝ }
+        ⌜ (a ≡ exported r (answered e (now (room .entry)) q)) × (now (room .exit) ≡ bufferBy r (roomAfter e (now (room .entry)) q) (now (room .entry))) ⌝ }
 {
-    let t = records::open_record(r);
-    if t.fits {
-        let e = t.exchange;
-        let s = steps::read_init(e, room, payload);
-        return records::answer_of(s);
-    }
-    records::refuse(r)
+    on_record::read_init(r, room, payload)
 }
 
 // Client, REPLY read.
@@ -240,15 +216,9 @@ pub extern "C" fn castulfrisa_read_reply(r: Record, room: &mut [u8], payload: &[
     ensures { λ a.
         let e = openedOf r .exchange in
         let q = reply (now (payload .entry)) in
-        ⌜ (a ≡ answerOf r (answered e (now (room .entry)) q)) × (now (room .exit) ≡ bufferBy r (roomAfter e (now (room .entry)) q) (now (room .entry))) ⌝ }
+        ⌜ (a ≡ exported r (answered e (now (room .entry)) q)) × (now (room .exit) ≡ bufferBy r (roomAfter e (now (room .entry)) q) (now (room .entry))) ⌝ }
 {
-    let t = records::open_record(r);
-    if t.fits {
-        let e = t.exchange;
-        let s = steps::read_reply(e, room, payload);
-        return records::answer_of(s);
-    }
-    records::refuse(r)
+    on_record::read_reply(r, room, payload)
 }
 
 // Both roles, the secret.
@@ -267,17 +237,9 @@ pub extern "C" fn castulfrisa_take_secret(
     ensures { λ a.
         let e = openedOf r .exchange in
         let q = secretStep (classicalOf given «x_count») (now (x .entry)) (kemOf (r .method) kem) (now (digest .entry)) (now (ks .entry)) (now (s .entry)) in
-        ⌜ (a ≡ answerOf r (answered e (now (room .entry)) q)) × (now (room .exit) ≡ bufferBy r (roomAfter e (now (room .entry)) q) (now (room .entry))) ⌝ }
+        ⌜ (a ≡ exported r (answered e (now (room .entry)) q)) × (now (room .exit) ≡ bufferBy r (roomAfter e (now (room .entry)) q) (now (room .entry))) ⌝ }
 {
-    let t = records::open_record(r);
-    if t.fits {
-        let e = t.exchange;
-        let cl = records::classical_of(given, x_count);
-        let km = records::kem_of(r.method, kem);
-        let a = steps::take_secret(e, room, cl, x, km, digest, ks, s);
-        return records::answer_of(a);
-    }
-    records::refuse(r)
+    on_record::take_secret(r, room, given, x_count, x, kem, digest, ks, s)
 }
 
 // Server, the signature.
@@ -291,16 +253,10 @@ pub extern "C" fn castulfrisa_sign(
 ) -> Answer
     ensures { λ a.
         let e = openedOf r .exchange in
-        let q = signStep (now (signature .entry)) (now (out .entry)) (now («k_out» .entry)) in
-        ⌜ (a ≡ answerOf r (answered e (now (room .entry)) q)) × (now (out .exit) ≡ bufferBy r (outputAfter (number e (now (room .entry)) q) (now (out .entry)) (replyOf e (now (room .entry)) (now (signature .entry)))) (now (out .entry))) × (now («k_out» .exit) ≡ bufferBy r (outputAfter (number e (now (room .entry)) q) (now («k_out» .entry)) (e .k)) (now («k_out» .entry))) ⌝ }
+        let q = signStep (now (signature .entry)) (length (now (out .entry))) (length (now («k_out» .entry))) in
+        ⌜ (a ≡ exported r (answered e (now (room .entry)) q)) × (now (out .exit) ≡ bufferBy r (outputAfter (number e (now (room .entry)) q) (now (out .entry)) (replyOf e (now (room .entry)) (now (signature .entry)))) (now (out .entry))) × (now («k_out» .exit) ≡ bufferBy r (outputAfter (number e (now (room .entry)) q) (now («k_out» .entry)) (e .k)) (now («k_out» .entry))) ⌝ }
 {
-    let t = records::open_record(r);
-    if t.fits {
-        let e = t.exchange;
-        let s = steps::sign(e, room, signature, out, k_out);
-        return records::answer_of(s);
-    }
-    records::refuse(r)
+    on_record::sign(r, room, signature, out, k_out)
 }
 
 // Client, the verdict.
@@ -314,50 +270,20 @@ pub extern "C" fn castulfrisa_verdict(
 ) -> Answer
     ensures { λ a.
         let e = openedOf r .exchange in
-        let q = verdictStep signature «host_key» (now («k_out» .entry)) in
-        ⌜ (a ≡ answerOf r (answered e (now (room .entry)) q)) × (now (room .exit) ≡ bufferBy r (roomAfter e (now (room .entry)) q) (now (room .entry))) × (now («k_out» .exit) ≡ bufferBy r (outputAfter (number e (now (room .entry)) q) (now («k_out» .entry)) (e .k)) (now («k_out» .entry))) ⌝ }
+        let q = verdictStep signature «host_key» (length (now («k_out» .entry))) in
+        ⌜ (a ≡ exported r (answered e (now (room .entry)) q)) × (now (room .exit) ≡ bufferBy r (roomAfter e (now (room .entry)) q) (now (room .entry))) × (now («k_out» .exit) ≡ bufferBy r (outputAfter (number e (now (room .entry)) q) (now («k_out» .entry)) (e .k)) (now («k_out» .entry))) ⌝ }
 {
-    let t = records::open_record(r);
-    if t.fits {
-        let e = t.exchange;
-        let s = steps::verdict(e, room, signature, host_key, k_out);
-        return records::answer_of(s);
-    }
-    records::refuse(r)
+    on_record::verdict(r, room, signature, host_key, k_out)
 }
 
 // ---- parts of INIT and REPLY, by a call that is no step
-
-// The place of string i of an INIT.
-fn init_part(r: Record, room: &[u8], payload: &[u8], i: usize) -> Part
-    ensures { λ p. ⌜ p ≡ partBy r (stepPart (openedOf r .exchange) (now (room .entry)) (init (now (payload .entry))) (now (payload .entry)) i) ⌝ }
-{
-    let t = records::open_record(r);
-    if t.fits {
-        let e = t.exchange;
-        return parts::init_part(e, room, payload, i);
-    }
-    Part { start: 0, len: 0 }
-}
-
-// The place of string i of a REPLY.
-fn reply_part(r: Record, room: &[u8], payload: &[u8], i: usize) -> Part
-    ensures { λ p. ⌜ p ≡ partBy r (stepPart (openedOf r .exchange) (now (room .entry)) (reply (now (payload .entry))) (now (payload .entry)) i) ⌝ }
-{
-    let t = records::open_record(r);
-    if t.fits {
-        let e = t.exchange;
-        return parts::reply_part(e, room, payload, i);
-    }
-    Part { start: 0, len: 0 }
-}
 
 // The place of C in an INIT that the step would accept; empty for every refusal.
 #[no_mangle]
 pub extern "C" fn castulfrisa_init_c(r: Record, room: &[u8], payload: &[u8]) -> Part
     ensures { λ p. ⌜ p ≡ partBy r (stepPart (openedOf r .exchange) (now (room .entry)) (init (now (payload .entry))) (now (payload .entry)) 0) ⌝ }
 {
-    init_part(r, room, payload, 0)
+    on_record::init_part(r, room, payload, 0)
 }
 
 // The place of K_S in a REPLY, likewise.
@@ -365,7 +291,7 @@ pub extern "C" fn castulfrisa_init_c(r: Record, room: &[u8], payload: &[u8]) -> 
 pub extern "C" fn castulfrisa_reply_host_key(r: Record, room: &[u8], payload: &[u8]) -> Part
     ensures { λ p. ⌜ p ≡ partBy r (stepPart (openedOf r .exchange) (now (room .entry)) (reply (now (payload .entry))) (now (payload .entry)) 0) ⌝ }
 {
-    reply_part(r, room, payload, 0)
+    on_record::reply_part(r, room, payload, 0)
 }
 
 // The place of S in a REPLY, likewise.
@@ -373,7 +299,7 @@ pub extern "C" fn castulfrisa_reply_host_key(r: Record, room: &[u8], payload: &[
 pub extern "C" fn castulfrisa_reply_s(r: Record, room: &[u8], payload: &[u8]) -> Part
     ensures { λ p. ⌜ p ≡ partBy r (stepPart (openedOf r .exchange) (now (room .entry)) (reply (now (payload .entry))) (now (payload .entry)) 1) ⌝ }
 {
-    reply_part(r, room, payload, 1)
+    on_record::reply_part(r, room, payload, 1)
 }
 
 // The place of the signature in a REPLY, likewise.
@@ -381,5 +307,5 @@ pub extern "C" fn castulfrisa_reply_s(r: Record, room: &[u8], payload: &[u8]) ->
 pub extern "C" fn castulfrisa_reply_signature(r: Record, room: &[u8], payload: &[u8]) -> Part
     ensures { λ p. ⌜ p ≡ partBy r (stepPart (openedOf r .exchange) (now (room .entry)) (reply (now (payload .entry))) (now (payload .entry)) 2) ⌝ }
 {
-    reply_part(r, room, payload, 2)
+    on_record::reply_part(r, room, payload, 2)
 }

@@ -1,5 +1,5 @@
 -- The choice from two KEXINIT payloads. Assumes nothing.
-use Prim.Native.Nat.{ℕ}
+use Prim.Native.Nat.{ℕ, zero, suc}
 use mathlib.Core.List.{List, [], _∷_}
 use mathlib.Core.Bool.{Bool, false, cond, not, _&&_, _||_}
 use lib.Dec.{eqb}
@@ -7,18 +7,29 @@ use Rattle.buffers.specs.Bytes.{same}
 use Rattle.wire.specs.Causes.{causeIf, causeUnless, orElse}
 use Rattle.wire.specs.Parts.{nothing, bytesAt}
 use Rattle.wire.specs.declared.Part.{Part}
-use Rattle.names.specs.Names.{every, goodName}
-use Rattle.kexinit.specs.Reader.{kexinitCause, listPart, listNames, openList}
-use Rattle.choice.specs.Common.{methodIn, commonPart, firstOf}
+use Rattle.limits.specs.Limits.{listCount}
+use Rattle.limits.specs.Every.{every}
+use Rattle.names.specs.Names.{goodList}
+use Rattle.kexinit.specs.Reader.{kexinitCause, listPart, listNames, headBy, openHead}
+use Rattle.kexinit.specs.declared.Head.{Head}
+use Rattle.common.specs.Common.{methodIn, commonPart, firstOf}
 use Rattle.choice.specs.declared.Choice.{Choice}
 
--- the ten lists
+-- k lists from number n on; all ten
+abbrev pub listsFrom : ℕ → ℕ → List ℕ
+listsFrom n zero = []
+listsFrom n (suc k) = n ∷ listsFrom (suc n) k
+
 abbrev pub allLists : List ℕ
-allLists = 1 ∷ 2 ∷ 3 ∷ 4 ∷ 5 ∷ 6 ∷ 7 ∷ 8 ∷ 9 ∷ 10 ∷ []
+allLists = listsFrom 1 listCount
 
 -- a payload judged with every name of its ten lists
 unfoldable pub payloadCause : List ℕ → ℕ
-payloadCause p = orElse (kexinitCause p) (causeUnless (every (λ n. every goodName (listNames p n)) allLists) 19 0)
+payloadCause p = orElse (kexinitCause p) (causeUnless (every (λ n. goodList (bytesAt p (listPart p n))) allLists) 19 0)
+
+-- and opened, by the first cause against it
+abbrev pub judgedHead : List ℕ → Head
+judgedHead p = headBy (payloadCause p) p
 
 -- list 1 is kex_algorithms, list 2 is server_host_key_algorithms
 abbrev pub methodFrom : (ℕ → Bool) → List ℕ → List ℕ → ℕ
@@ -41,8 +52,8 @@ guessedWrong client server =
     not (same (firstOf (listNames client 1)) (firstOf (listNames server 1)))
     || not (same (firstOf (listNames client 2)) (firstOf (listNames server 2)))
 
-abbrev pub refusal : ℕ → Choice
-refusal k = record { number = k; method = 0; «host_key» = nothing; «ignore_client» = false; «ignore_server» = false }
+abbrev pub choiceRefused : ℕ → Choice
+choiceRefused k = record { number = k; method = 0; «host_key» = nothing; «ignore_client» = false; «ignore_server» = false }
 
 -- a side's next packet is to be ignored exactly when its boolean is true and the guess is wrong
 unfoldable pub chosen : (ℕ → Bool) → List ℕ → List ℕ → Choice
@@ -52,7 +63,7 @@ chosen allowed client server =
       number = 0;
       method = methodFrom allowed client server;
       «host_key» = hostKeyFrom client server;
-      «ignore_client» = openList client 1 .follows && guessedWrong client server;
-      «ignore_server» = openList server 1 .follows && guessedWrong client server;
+      «ignore_client» = openHead client .follows && guessedWrong client server;
+      «ignore_server» = openHead server .follows && guessedWrong client server;
     })
-    (refusal (choiceCause allowed client server))
+    (choiceRefused (choiceCause allowed client server))

@@ -1,27 +1,29 @@
 -- Demand 3 holds. Assumes nothing.
-use Prim.Native.Nat.{ℕ, _≤_}
-use mathlib.Core.Path.{_≡_, refl, sym, ap, ap₂, _∙_, subst}
-use mathlib.Core.List.{List, [], _∷_}
+use Prim.Native.Nat.{ℕ}
+use mathlib.Core.Path.{_≡_, refl, sym, ap, ap₂, _∙_}
+use mathlib.Core.List.{List, _∷_}
 use lib.ListN.{length}
 use denote.Ref.{now}
 use Rattle.exchange.specs.Causes.{startCause}
-use Rattle.exchange.specs.Steps.{Call, sign, answered, number, exchangeAfter, roomAfter, started, startedRoom}
+use Rattle.exchange.specs.Steps.{Call, answered, number, exchangeAfter, roomAfter, started, startedRoom}
+use Rattle.exchange.specs.Book.{Book, opened}
 use Rattle.exchange.specs.Demand.{numbersOf, lastExchange, lastRoom, Held}
 use Rattle.exchange.specs.declared.Step.{Step}
 use Rattle.exchange.specs.declared.Exchange.{Exchange}
 use Rattle.exchange.proofs.Simulation.{held, start-zero, sign-room}
 use Rattle.demand.specs.History.{History, no-call, own-c, read-init, read-reply, take-secret, give-sign, give-verdict}
+use Rattle.demand.specs.Told.{Told, start-then}
 use Rattle.demand.specs.Demand3.{Demand3}
 
 -- a history is the run of the definitions
-record Same (e : Exchange) (room : List ℕ) (qs : List Call) (ns : List ℕ) (e′ : Exchange) (room′ : List ℕ) : Type 0 where
-  numbers : ns ≡ numbersOf e room qs
-  exchange : e′ ≡ lastExchange e room qs
-  rooms : room′ ≡ lastRoom e room qs
+pub record AsDefined (e : Exchange) (room : List ℕ) (qs : List Call) (ns : List ℕ) (e′ : Exchange) (room′ : List ℕ) : Type 0 where
+  pub numbers : ns ≡ numbersOf e room qs
+  pub exchange : e′ ≡ lastExchange e room qs
+  pub rooms : room′ ≡ lastRoom e room qs
 
 -- a call that answered and left what the definitions say, and then the rest
 one-more : {e : Exchange} {room : List ℕ} {q : Call} {r : Step} {room₁ : List ℕ} {qs : List Call} {ns : List ℕ} {e′ : Exchange} {room′ : List ℕ}
-    → r ≡ answered e room q → room₁ ≡ roomAfter e room q → Same (r .exchange) room₁ qs ns e′ room′ → Same e room (q ∷ qs) (r .number ∷ ns) e′ room′
+    → r ≡ answered e room q → room₁ ≡ roomAfter e room q → AsDefined (r .exchange) room₁ qs ns e′ room′ → AsDefined e room (q ∷ qs) (r .number ∷ ns) e′ room′
 unfolding answered
 one-more {e} {room} {q} {r} {room₁} {qs} {ns} t u s =
     let x : r .exchange ≡ exchangeAfter e room q = ap (λ (z : Step). z .exchange) t in
@@ -32,20 +34,52 @@ one-more {e} {room} {q} {r} {room₁} {qs} {ns} t u s =
       rooms = rw (x, u) at (s .rooms);
     }
 
-same : {e : Exchange} {room : List ℕ} {qs : List Call} {ns : List ℕ} {e′ : Exchange} {room′ : List ℕ} → History e room qs ns e′ room′ → Same e room qs ns e′ room′
-same no-call = record { numbers = refl; exchange = refl; rooms = refl }
-same (own-c κs a r s t h) = one-more (t .0) (t .1) (same h)
-same (read-init κs a r s t h) = one-more (t .0) (t .1) (same h)
-same (read-reply κs a r s t h) = one-more (t .0) (t .1) (same h)
-same (take-secret κs a r s t h) = one-more (t .0) (t .1) (same h)
-same (give-sign κs a r s t h) = one-more (t .0) (sym (sign-room (a .0) (now (a .1 .0)) _ _ _)) (same h)
-same (give-verdict κs a r s t h) = one-more (t .0) (t .1) (same h)
+pub as-defined : {e : Exchange} {room : List ℕ} {qs : List Call} {ns : List ℕ} {e′ : Exchange} {room′ : List ℕ} → History e room qs ns e′ room′ → AsDefined e room qs ns e′ room′
+as-defined no-call = record { numbers = refl; exchange = refl; rooms = refl }
+as-defined (own-c κs a r s t h) = one-more (t .0) (t .1) (as-defined h)
+as-defined (read-init κs a r s t h) = one-more (t .0) (t .1) (as-defined h)
+as-defined (read-reply κs a r s t h) = one-more (t .0) (t .1) (as-defined h)
+as-defined (take-secret κs a r s t h) = one-more (t .0) (t .1) (as-defined h)
+as-defined (give-sign κs a r s t h) = one-more (t .0) (sym (sign-room (a .0) (now (a .1 .0)) _ _ _)) (as-defined h)
+as-defined (give-verdict κs a r s t h) = one-more (t .0) (t .1) (as-defined h)
 
-pub demand3 : Demand3
-demand3 κs a r s t z calls numbers e room h =
-    let c = start-zero (a .0) (a .1 .0) (now (a .1 .1 .0)) (now (a .1 .1 .1 .0)) (now (a .1 .1 .1 .1 .0)) (now (a .1 .1 .1 .1 .1 .0)) (length (now (a .1 .1 .1 .1 .1 .1 .0))) (sym (ap (λ (x : Step). x .number) (t .0)) ∙ z) in
-    let k = held (a .0) (a .1 .0) (now (a .1 .1 .0)) (now (a .1 .1 .1 .0)) (now (a .1 .1 .1 .1 .0)) (now (a .1 .1 .1 .1 .1 .0)) (now (a .1 .1 .1 .1 .1 .1 .0)) c calls in
-    let m = same h in
+-- an accepted start had no cause against it, and exchange and room are those that the definitions reach from it
+pub record Run (b₀ : Book) (room₀ : List ℕ) (calls : List Call) (numbers : List ℕ) (e : Exchange) (room : List ℕ) : Type 0 where
+  pub role : ℕ
+  pub method : ℕ
+  pub vc : List ℕ
+  pub vs : List ℕ
+  pub ic : List ℕ
+  pub is : List ℕ
+  pub book : b₀ ≡ opened role method vc vs ic is
+  pub cause : startCause role method vc vs ic is (length room₀) ≡ 0
+  pub run : AsDefined (started role method vc vs ic is (length room₀) .exchange) (startedRoom role method vc vs ic is room₀) calls numbers e room
+
+pub runs : {b₀ : Book} {room₀ : List ℕ} {calls : List Call} {numbers : List ℕ} {e : Exchange} {room : List ℕ} → Told b₀ room₀ calls numbers e room
+    → Run b₀ room₀ calls numbers e room
+runs (start-then {calls} {numbers} {e} {room} κs a r s t z h) =
     let x = ap (λ (y : Step). y .exchange) (t .0) in
     let u = t .1 in
-    rw (m .numbers, m .exchange, m .rooms, x, u) k
+    record {
+      role = a .0;
+      method = a .1 .0;
+      vc = now (a .1 .1 .0);
+      vs = now (a .1 .1 .1 .0);
+      ic = now (a .1 .1 .1 .1 .0);
+      is = now (a .1 .1 .1 .1 .1 .0);
+      book = refl;
+      cause = start-zero (a .0) (a .1 .0) (now (a .1 .1 .0)) (now (a .1 .1 .1 .0)) (now (a .1 .1 .1 .1 .0)) (now (a .1 .1 .1 .1 .1 .0)) (length (now (a .1 .1 .1 .1 .1 .1 .0))) (sym (ap (λ (y : Step). y .number) (t .0)) ∙ z);
+      run = rw (x, u) at (as-defined h);
+    }
+
+held-there : (role m : ℕ) (vc vs ic is room₀ : List ℕ) (b₀ : Book) (calls : List Call) (numbers : List ℕ) (e : Exchange) (room : List ℕ)
+    → b₀ ≡ opened role m vc vs ic is → startCause role m vc vs ic is (length room₀) ≡ 0
+    → AsDefined (started role m vc vs ic is (length room₀) .exchange) (startedRoom role m vc vs ic is room₀) calls numbers e room
+    → Held b₀ room₀ calls numbers e room
+held-there role m vc vs ic is room₀ b₀ calls numbers e room b c s =
+    rw (b, s .numbers, s .exchange, s .rooms) (held role m vc vs ic is room₀ c calls)
+
+pub demand3 : Demand3
+demand3 b₀ room₀ calls numbers e room h =
+    let k = runs h in
+    held-there (k .role) (k .method) (k .vc) (k .vs) (k .ic) (k .is) room₀ b₀ calls numbers e room (k .book) (k .cause) (k .run)

@@ -1,22 +1,32 @@
 -- Demand 3 is not about nothing: every list of calls has a history, and for each role and method one ends complete. Assumes nothing.
 use Prim.Native.Nat.{ℕ, _≤_}
-use mathlib.Core.Path.{_≡_, refl, sym, ap, _∙_, subst}
+use mathlib.Core.Path.{_≡_, refl, subst}
 use mathlib.Core.List.{List, [], _∷_}
-use mathlib.Core.Bool.{true}
-use lib.ListN.{length}
+use mathlib.Core.Bool.{Bool, true}
+use lib.ListN.{length, length-replicate}
 use base.Fml.{Lft, GName}
 use denote.Ref.{RefT, now}
+use Rattle.buffers.specs.Bytes.{zeros}
 use Rattle.messages.specs.Messages.{initBytes}
-use Rattle.exchange.specs.Causes.{roomLeast, methodOk, roleOk, startCause}
+use Rattle.limits.specs.Limits.{roomLeast}
+use Rattle.exchange.specs.Causes.{methodOk, roleOk, startCause}
 use Rattle.exchange.specs.Steps.{Call, ownC, init, reply, secret, sign, verdict, number, replyOf, answered, exchangeAfter, roomAfter, outputAfter, started, startedRoom}
-use Rattle.exchange.specs.Book.{isComplete}
+use Rattle.exchange.specs.Book.{opened}
 use Rattle.exchange.specs.Demand.{numbersOf, lastExchange, lastRoom}
-use Rattle.exchange.specs.Sample.{version, payload, sampleCalls}
-use Rattle.exchange.specs.declared.Step.{Step}
+use Rattle.exchange.proofs.Sample.{version, payload, sampleCalls}
 use Rattle.exchange.specs.declared.Exchange.{Exchange}
 use Rattle.exchange.proofs.Simulation.{sign-room}
 use Rattle.exchange.proofs.Completes.{completes}
+use Rattle.demand.specs.Told.{Told, start-then}
+use Rattle.demand.specs.Completed.{Completed}
 use Rattle.demand.specs.History.{History, no-call, own-c, read-init, read-reply, take-secret, give-sign, give-verdict}
+
+-- a run of the definitions is a history
+abbrev pub Reaches : Exchange → List ℕ → List Call → Type 0
+Reaches e room qs = History e room qs (numbersOf e room qs) (lastExchange e room qs) (lastRoom e room qs)
+
+length-zeros : (n : ℕ) → length (zeros n) ≡ n
+length-zeros n = length-replicate n 0
 
 -- at any lifetime and any ghost name
 module _ (l : Lft) (g : GName) where
@@ -24,14 +34,41 @@ module _ (l : Lft) (g : GName) where
   lent : List ℕ → RefT (List ℕ)
   lent x = record { ptr = (0, 0); name = g; now = x }
 
-  -- the definitions' run is a history
-  pub reached : (e : Exchange) (room : List ℕ) (qs : List Call) → History e room qs (numbersOf e room qs) (lastExchange e room qs) (lastRoom e room qs)
+  -- one call with outputs in hand, and then the rest of the run
+  module _ (e : Exchange) (room : List ℕ) (qs : List Call) where
+    own-c-then : (c out : List ℕ) → let q = ownC c (length out) in Reaches (exchangeAfter e room q) (roomAfter e room q) qs → Reaches e room (q ∷ qs)
+    unfolding answered lent
+    own-c-then c out h =
+        own-c (l, (l, (l, tt))) (e, (lent room, (lent c, (lent out, tt)))) (answered e room (ownC c (length out)))
+        (e, (lent (roomAfter e room (ownC c (length out))), (lent c, (lent (outputAfter (number e room (ownC c (length out))) out (initBytes c)), tt))))
+        (refl, refl, refl) h
+
+    sign-then : (g out kOut : List ℕ) → let q = sign g (length out) (length kOut) in Reaches (exchangeAfter e room q) (roomAfter e room q) qs → Reaches e room (q ∷ qs)
+    unfolding answered lent
+    sign-then g out kOut h =
+        let q : Call = sign g (length out) (length kOut) in
+        give-sign (l, (l, (l, (l, tt)))) (e, (lent room, (lent g, (lent out, (lent kOut, tt))))) (answered e room q)
+        (e, (lent room, (lent g, (lent (outputAfter (number e room q) out (replyOf e room g)), (lent (outputAfter (number e room q) kOut (e .k)), tt)))))
+        (refl, refl, refl)
+        (subst
+        (λ (room₁ : List ℕ). History (exchangeAfter e room q) room₁ qs (numbersOf (exchangeAfter e room q) (roomAfter e room q) qs)
+        (lastExchange (exchangeAfter e room q) (roomAfter e room q) qs) (lastRoom (exchangeAfter e room q) (roomAfter e room q) qs))
+        (sign-room e room g (length out) (length kOut)) h)
+
+    verdict-then : (a b : Bool) (kOut : List ℕ) → let q = verdict a b (length kOut) in Reaches (exchangeAfter e room q) (roomAfter e room q) qs → Reaches e room (q ∷ qs)
+    unfolding answered lent
+    verdict-then a b kOut h =
+        let q : Call = verdict a b (length kOut) in
+        give-verdict (l, (l, tt)) (e, (lent room, (a, (b, (lent kOut, tt))))) (answered e room q)
+        (e, (lent (roomAfter e room q), (a, (b, (lent (outputAfter (number e room q) kOut (e .k)), tt)))))
+        (refl, refl, refl) h
+
+  -- the definitions' run is a history: outputs of zeros have every length
+  pub reached : (e : Exchange) (room : List ℕ) (qs : List Call) → Reaches e room qs
   unfolding answered lent
   reached e room [] = no-call
   reached e room (ownC c out ∷ qs) =
-      own-c (l, (l, (l, tt))) (e, (lent room, (lent c, (lent out, tt)))) (answered e room (ownC c out))
-      (e, (lent (roomAfter e room (ownC c out)), (lent c, (lent (outputAfter (number e room (ownC c out)) out (initBytes c)), tt))))
-      (refl, refl, refl) (reached (exchangeAfter e room (ownC c out)) (roomAfter e room (ownC c out)) qs)
+      subst (λ (n : ℕ). Reaches e room (ownC c n ∷ qs)) (length-zeros out) (own-c-then e room qs c (zeros out) (reached _ _ qs))
   reached e room (init p ∷ qs) =
       read-init (l, (l, tt)) (e, (lent room, (lent p, tt))) (answered e room (init p)) (e, (lent (roomAfter e room (init p)), (lent p, tt)))
       (refl, refl) (reached (exchangeAfter e room (init p)) (roomAfter e room (init p)) qs)
@@ -42,41 +79,39 @@ module _ (l : Lft) (g : GName) where
       take-secret (l, (l, (l, (l, (l, tt))))) (e, (lent room, (cl, (lent x, (kem, (lent d, (lent ks, (lent s, tt)))))))) (answered e room (secret cl x kem d ks s))
       (e, (lent (roomAfter e room (secret cl x kem d ks s)), (cl, (lent x, (kem, (lent d, (lent ks, (lent s, tt))))))))
       (refl, refl) (reached (exchangeAfter e room (secret cl x kem d ks s)) (roomAfter e room (secret cl x kem d ks s)) qs)
-  reached e room (sign signature out kOut ∷ qs) =
-      give-sign (l, (l, (l, (l, tt)))) (e, (lent room, (lent signature, (lent out, (lent kOut, tt))))) (answered e room (sign signature out kOut))
-      (e, (lent room, (lent signature, (lent (outputAfter (number e room (sign signature out kOut)) out (replyOf e room signature)), (lent (outputAfter (number e room (sign signature out kOut)) kOut (e .k)), tt)))))
-      (refl, refl, refl)
-      (subst
-      (λ (room₁ : List ℕ). History (exchangeAfter e room (sign signature out kOut)) room₁ qs
-      (numbersOf (exchangeAfter e room (sign signature out kOut)) (roomAfter e room (sign signature out kOut)) qs)
-      (lastExchange (exchangeAfter e room (sign signature out kOut)) (roomAfter e room (sign signature out kOut)) qs)
-      (lastRoom (exchangeAfter e room (sign signature out kOut)) (roomAfter e room (sign signature out kOut)) qs))
-      (sign-room e room signature out kOut)
-      (reached (exchangeAfter e room (sign signature out kOut)) (roomAfter e room (sign signature out kOut)) qs))
+  reached e room (sign g out kOut ∷ qs) =
+      subst (λ (n : ℕ). Reaches e room (sign g n kOut ∷ qs)) (length-zeros out)
+      (subst (λ (n : ℕ). Reaches e room (sign g (length (zeros out)) n ∷ qs)) (length-zeros kOut) (sign-then e room qs g (zeros out) (zeros kOut) (reached _ _ qs)))
   reached e room (verdict a b kOut ∷ qs) =
-      give-verdict (l, (l, tt)) (e, (lent room, (a, (b, (lent kOut, tt))))) (answered e room (verdict a b kOut))
-      (e, (lent (roomAfter e room (verdict a b kOut)), (a, (b, (lent (outputAfter (number e room (verdict a b kOut)) kOut (e .k)), tt)))))
-      (refl, refl, refl) (reached (exchangeAfter e room (verdict a b kOut)) (roomAfter e room (verdict a b kOut)) qs)
+      subst (λ (n : ℕ). Reaches e room (verdict a b n ∷ qs)) (length-zeros kOut) (verdict-then e room qs a b (zeros kOut) (reached _ _ qs))
 
-  -- an exchange that an accepted start and a list of calls reach, and that records itself complete
-  pub record Completed (role m : ℕ) (room : List ℕ) : Type 0 where
-    pub accepted : startCause role m version version payload payload (length room) ≡ 0
-    pub numbers : List ℕ
-    pub exchange : Exchange
-    pub room-left : List ℕ
-    pub history : History (started role m version version payload payload (length room) .exchange) (startedRoom role m version version payload payload room) (sampleCalls role m) numbers exchange room-left
-    pub complete : isComplete (exchange .stage) ≡ true
+  -- a start with no cause against it, and any list of calls after it
+  told-of : (role m : ℕ) (vc vs ic is room : List ℕ) (qs : List Call) → startCause role m vc vs ic is (length room) ≡ 0
+      → let e = started role m vc vs ic is (length room) .exchange in
+      let o = startedRoom role m vc vs ic is room in
+      Told (opened role m vc vs ic is) room qs (numbersOf e o qs) (lastExchange e o qs) (lastRoom e o qs)
+  unfolding lent started
+  told-of role m vc vs ic is room qs z =
+      start-then (l, (l, (l, (l, (l, tt))))) (role, (m, (lent vc, (lent vs, (lent ic, (lent is, (lent room, tt)))))))
+      (started role m vc vs ic is (length room))
+      (role, (m, (lent vc, (lent vs, (lent ic, (lent is, (lent (startedRoom role m vc vs ic is room), tt)))))))
+      (refl, refl) (rw z) (reached (started role m vc vs ic is (length room) .exchange) (startedRoom role m vc vs ic is room) qs)
 
+  -- for each role and method one ends complete
   pub completed : (role m : ℕ) (room : List ℕ) → roleOk role ≡ true → methodOk m ≡ true → roomLeast ≤ length room → Completed role m room
+  unfolding opened
   completed role m room r k h =
       let c = completes role m room r k h in
       let e : Exchange = started role m version version payload payload (length room) .exchange in
       let o : List ℕ = startedRoom role m version version payload payload room in
       record {
-        accepted = c .0;
+        book = opened role m version version payload payload;
+        role-is = refl;
+        method-is = refl;
+        calls = sampleCalls role m;
         numbers = numbersOf e o (sampleCalls role m);
         exchange = lastExchange e o (sampleCalls role m);
         room-left = lastRoom e o (sampleCalls role m);
-        history = reached e o (sampleCalls role m);
+        told = told-of role m version version payload payload room (sampleCalls role m) (c .0);
         complete = c .1;
       }

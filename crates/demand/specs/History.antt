@@ -4,6 +4,7 @@
 -- Assumes nothing.
 use Prim.Native.Nat.{ℕ}
 use mathlib.Core.List.{List, [], _∷_}
+use lib.ListN.{length}
 use contract.Lifetimes.{Lfts}
 use denote.Ref.{now}
 use denote.Triple.Clauses.{AtExit}
@@ -11,25 +12,25 @@ use borrow.Fn.World.{ArgsD}
 use Rattle.exchange.specs.Steps.{Call, ownC, init, reply, secret, sign, verdict}
 use Rattle.exchange.specs.declared.Step.{Step}
 use Rattle.exchange.specs.declared.Exchange.{Exchange}
-use Rattle.steps.proofs.own_c as own-c-fn
-use Rattle.steps.proofs.own_c.Reads as own-c-reads
-use Rattle.steps.proofs.read_init as read-init-fn
-use Rattle.steps.proofs.read_init.Reads as read-init-reads
-use Rattle.steps.proofs.read_reply as read-reply-fn
-use Rattle.steps.proofs.read_reply.Reads as read-reply-reads
+use Rattle.client.proofs.own_c as own-c-fn
+use Rattle.client.proofs.own_c.Reads as own-c-reads
+use Rattle.server.proofs.read_init as read-init-fn
+use Rattle.server.proofs.read_init.Reads as read-init-reads
+use Rattle.client.proofs.read_reply as read-reply-fn
+use Rattle.client.proofs.read_reply.Reads as read-reply-reads
 use Rattle.steps.proofs.take_secret as take-secret-fn
 use Rattle.steps.proofs.take_secret.Reads as take-secret-reads
-use Rattle.steps.proofs.sign as sign-fn
-use Rattle.steps.proofs.sign.Reads as sign-reads
-use Rattle.steps.proofs.verdict as verdict-fn
-use Rattle.steps.proofs.verdict.Reads as verdict-reads
+use Rattle.server.proofs.sign as sign-fn
+use Rattle.server.proofs.sign.Reads as sign-reads
+use Rattle.client.proofs.verdict as verdict-fn
+use Rattle.client.proofs.verdict.Reads as verdict-reads
 
 -- from an exchange and a room, by calls that answered these numbers, to an exchange and a room
 pub data History : Exchange → List ℕ → List Call → List ℕ → Exchange → List ℕ → Type 0 where
   no-call : {e : Exchange} {room : List ℕ} → History e room [] [] e room
   own-c : {qs : List Call} {ns : List ℕ} {e′ : Exchange} {room′ : List ℕ} (κs : Lfts 3) (a : ArgsD own-c-fn.signature κs) (r : Step) (s : AtExit own-c-fn.ended κs) →
       own-c-reads.Learnt κs a r s → History (r .exchange) (now (s .1 .0)) qs ns e′ room′ →
-      History (a .0) (now (a .1 .0)) (ownC (now (a .1 .1 .0)) (now (a .1 .1 .1 .0)) ∷ qs) (r .number ∷ ns) e′ room′
+      History (a .0) (now (a .1 .0)) (ownC (now (a .1 .1 .0)) (length (now (a .1 .1 .1 .0))) ∷ qs) (r .number ∷ ns) e′ room′
   read-init : {qs : List Call} {ns : List ℕ} {e′ : Exchange} {room′ : List ℕ} (κs : Lfts 2) (a : ArgsD read-init-fn.signature κs) (r : Step) (s : AtExit read-init-fn.ended κs) →
       read-init-reads.Learnt κs a r s → History (r .exchange) (now (s .1 .0)) qs ns e′ room′ →
       History (a .0) (now (a .1 .0)) (init (now (a .1 .1 .0)) ∷ qs) (r .number ∷ ns) e′ room′
@@ -41,7 +42,7 @@ pub data History : Exchange → List ℕ → List Call → List ℕ → Exchange
       History (a .0) (now (a .1 .0)) (secret (a .1 .1 .0) (now (a .1 .1 .1 .0)) (a .1 .1 .1 .1 .0) (now (a .1 .1 .1 .1 .1 .0)) (now (a .1 .1 .1 .1 .1 .1 .0)) (now (a .1 .1 .1 .1 .1 .1 .1 .0)) ∷ qs) (r .number ∷ ns) e′ room′
   give-sign : {qs : List Call} {ns : List ℕ} {e′ : Exchange} {room′ : List ℕ} (κs : Lfts 4) (a : ArgsD sign-fn.signature κs) (r : Step) (s : AtExit sign-fn.ended κs) →
       sign-reads.Learnt κs a r s → History (r .exchange) (now (a .1 .0)) qs ns e′ room′ →
-      History (a .0) (now (a .1 .0)) (sign (now (a .1 .1 .0)) (now (a .1 .1 .1 .0)) (now (a .1 .1 .1 .1 .0)) ∷ qs) (r .number ∷ ns) e′ room′
+      History (a .0) (now (a .1 .0)) (sign (now (a .1 .1 .0)) (length (now (a .1 .1 .1 .0))) (length (now (a .1 .1 .1 .1 .0))) ∷ qs) (r .number ∷ ns) e′ room′
   give-verdict : {qs : List Call} {ns : List ℕ} {e′ : Exchange} {room′ : List ℕ} (κs : Lfts 2) (a : ArgsD verdict-fn.signature κs) (r : Step) (s : AtExit verdict-fn.ended κs) →
       verdict-reads.Learnt κs a r s → History (r .exchange) (now (s .1 .0)) qs ns e′ room′ →
-      History (a .0) (now (a .1 .0)) (verdict (a .1 .1 .0) (a .1 .1 .1 .0) (now (a .1 .1 .1 .1 .0)) ∷ qs) (r .number ∷ ns) e′ room′
+      History (a .0) (now (a .1 .0)) (verdict (a .1 .1 .0) (a .1 .1 .1 .0) (length (now (a .1 .1 .1 .1 .0))) ∷ qs) (r .number ∷ ns) e′ room′

@@ -1,32 +1,37 @@
 -- What an accepted call tells of the fields that it brings. Assumes nothing.
-use Prim.Native.Nat.{ℕ, _+_, _-_, _≤_, _<_}
+use Prim.Native.Nat.{ℕ, _+_, _-_, _≤_}
 use mathlib.Core.Path.{_≡_, refl, sym, ap, _∙_}
-use mathlib.Core.List.{List, [], _∷_, _++_}
-use mathlib.Core.Bool.{Bool, true, false, cond, not, _&&_, _||_, false≢true}
+use mathlib.Core.List.{List, _∷_}
+use mathlib.Core.Bool.{Bool, true, false, cond, not, _&&_, false≢true}
 use native.Mathlib.Omega.{arith}
 use lib.ListN.{length, getD, drop}
 use lib.Dec.{leb, ltb, eqb}
-use borrow.Author.Tests.{eqb-true, leb-true, le-leb, eq-eqb, ltb-false}
+use borrow.Author.Tests.{eqb-true, le-leb, eq-eqb, ltb-false}
+use Rattle.limits.specs.Limits.{versionMost, kexinitMost, stringMost, kSize, roomLeast, methodLast, server}
+use Rattle.limits.specs.Range.{within}
+use Rattle.limits.proofs.BoolLaws.{and-true, both}
+use Rattle.limits.proofs.RangeLaws.{within-least, within-most}
 use Rattle.buffers.specs.Bytes.{zeros, onto}
 use Rattle.wire.specs.Strings.{number32, string}
 use Rattle.wire.proofs.CauseLaws.{if-none, unless-none, orElse-none}
-use Rattle.wire.proofs.StringLaws.{and-true, length-string}
+use Rattle.wire.proofs.StringLaws.{length-string}
 use Rattle.wire.proofs.RoundTrip.{number32-string}
 use Rattle.mpint.specs.Mpint.{shortest}
 use Rattle.mpint.proofs.MpintLaws.{length-shortest}
-use Rattle.methods.specs.Rows.{rowOf, mostBy, kMost}
-use Rattle.methods.specs.Form.{lengthFits, formed}
+use Rattle.methods.specs.Rows.{hybrid, rowOf, mostBy, kMost}
+use Rattle.methods.specs.Form.{lengthFits, leadFits, formed}
 use Rattle.methods.specs.declared.KForm.{KForm}
 use Rattle.methods.specs.declared.KForm.the-variants.{Mpint, Digest}
 use Rattle.methods.specs.declared.Method.{Method}
-use Rattle.methods.proofs.MethodLaws.{Sound, sound}
+use Rattle.methods.specs.Sound.{Sound}
+use Rattle.methods.proofs.MethodLaws.{sound}
 use Rattle.methods.proofs.FormLaws.{formed-length}
-use Rattle.messages.specs.Messages.{within, messageCause, fieldOf}
-use Rattle.messages.proofs.MessageLaws.{within-least, within-most}
-use Rattle.secret.specs.Secret.{kSize, kBytes, leadingZeros}
+use Rattle.messages.specs.Payload.{messageCause}
+use Rattle.messages.specs.Messages.{initLayout, replyLayout, fieldOf}
+use Rattle.secret.specs.Secret.{kBytes}
 use Rattle.secret.proofs.SecretLaws.{k-some}
-use Rattle.exchange.specs.Causes.{roomLeast, versionOk, plain, kexinitOk, blobOk, methodOk, roleOk, startCause, ownCCause, initCause, replyCause, xOk, hybrid, present, kemOk, digestFor, digestOk, ownOk, allZero, xBad, kemBad, secretCause, kOf}
-use Rattle.exchange.specs.Record.{kBodyFits}
+use Rattle.exchange.specs.Causes.{versionOk, plain, kexinitOk, blobOk, methodOk, roleOk, startCause, ownCCause, initCause, replyCause, xOk, present, kemOk, digestFor, digestOk, ownOk, restOk, allZero, xBad, kemBad, secretCause, kOf}
+use Rattle.exchange.specs.Record.{kLength, kBodyFits}
 use Rattle.exchange.specs.Steps.{kRecord}
 use Rattle.exchange.specs.declared.Classical.{Classical}
 use Rattle.exchange.specs.declared.Classical.the-variants.{Failed as NoX, Given}
@@ -37,16 +42,18 @@ use Rattle.exchange.specs.declared.Kem.the-variants.{Absent, Failed as N
 
 pub record Base (m : ℕ) (vc vs ic is : List ℕ) : Type 0 where
   pub method-ok : methodOk m ≡ true
-  pub vc-ok : within 1 253 (length vc) ≡ true
-  pub vs-ok : within 1 253 (length vs) ≡ true
-  pub ic-ok : within 1 4096 (length ic) ≡ true
-  pub is-ok : within 1 4096 (length is) ≡ true
+  pub vc-ok : within 1 versionMost (length vc) ≡ true
+  pub vs-ok : within 1 versionMost (length vs) ≡ true
+  pub ic-ok : within 1 kexinitMost (length ic) ≡ true
+  pub is-ok : within 1 kexinitMost (length is) ≡ true
 
-pub record SizedC (m : ℕ) (c : List ℕ) : Type 0 where
-  pub ok : lengthFits (rowOf m .c) (length c) ≡ true
+pub record FormedC (m : ℕ) (c : List ℕ) : Type 0 where
+  pub ok : formed (rowOf m .c) c ≡ true
+  pub len : lengthFits (rowOf m .c) (length c) ≡ true
 
-pub record SizedS (m : ℕ) (s : List ℕ) : Type 0 where
-  pub ok : lengthFits (rowOf m .s) (length s) ≡ true
+pub record FormedS (m : ℕ) (s : List ℕ) : Type 0 where
+  pub ok : formed (rowOf m .s) s ≡ true
+  pub len : lengthFits (rowOf m .s) (length s) ≡ true
 
 pub record Blob (ks : List ℕ) : Type 0 where
   pub ok : blobOk (length ks) ≡ true
@@ -54,16 +61,17 @@ pub record Blob (ks : List ℕ) : Type 0 where
 pub record Key (m : ℕ) (k : List ℕ) : Type 0 where
   pub ok : kBodyFits (rowOf m .«k_form») (rowOf m) (number32 (kRecord k)) ≡ true
   pub most : length k ≤ 4 + kMost (rowOf m)
+  pub len : kLength (kRecord k) ≡ length k
 
 -- ---- the method
 
 pub method-least : (m : ℕ) → methodOk m ≡ true → 1 ≤ m
 unfolding methodOk
-method-least m e = within-least 1 9 m e
+method-least m e = within-least 1 methodLast m e
 
-pub method-most : (m : ℕ) → methodOk m ≡ true → m ≤ 9
+pub method-most : (m : ℕ) → methodOk m ≡ true → m ≤ methodLast
 unfolding methodOk
-method-most m e = within-most 1 9 m e
+method-most m e = within-most 1 methodLast m e
 
 pub method-row : (m : ℕ) → methodOk m ≡ true → Sound (rowOf m)
 method-row m e = sound m (method-least m e) (method-most m e)
@@ -85,56 +93,62 @@ start-known role m vc vs ic is room z =
       ltb-false room roomLeast (c .0),
       record {
         method-ok = b .0;
-        vc-ok = and-true (within 1 253 (length vc)) (plain vc) (e1 .0) .0;
-        vs-ok = and-true (within 1 253 (length vs)) (plain vs) (e1 .1) .0;
-        ic-ok = and-true (within 1 4096 (length ic)) (eqb (getD ic 0 0) 20) (e2 .1) .0;
-        is-ok = and-true (within 1 4096 (length is)) (eqb (getD is 0 0) 20) (e3 .1) .0;
+        vc-ok = and-true (within 1 versionMost (length vc)) (plain vc) (e1 .0) .0;
+        vs-ok = and-true (within 1 versionMost (length vs)) (plain vs) (e1 .1) .0;
+        ic-ok = and-true (within 1 kexinitMost (length ic)) (eqb (getD ic 0 0) 20) (e2 .1) .0;
+        is-ok = and-true (within 1 kexinitMost (length is)) (eqb (getD is 0 0) 20) (e3 .1) .0;
       },
     )
 
 -- ---- C, and K_S with S
 
-pub own-c-sized : (m : ℕ) (c : List ℕ) (out : ℕ) → ownCCause m c out ≡ 0 → SizedC m c
+pub own-c-formed : (m : ℕ) (c : List ℕ) (out : ℕ) → ownCCause m c out ≡ 0 → FormedC m c
 unfolding ownCCause
-own-c-sized m c out z = record { ok = formed-length (rowOf m .c) c (unless-none (formed (rowOf m .c) c) 4 _ (omega arith) z .0) }
+own-c-formed m c out z =
+    let f = unless-none (formed (rowOf m .c) c) 4 _ (omega arith) z .0 in
+    record { ok = f; len = formed-length (rowOf m .c) c f }
 
-pub init-sized : (m : ℕ) (p : List ℕ) → initCause m p ≡ 0 → (messageCause 30 1 p ≡ 0) × SizedC m (fieldOf p 0)
-unfolding initCause
-init-sized m p z =
-    let a = orElse-none (messageCause 30 1 p) _ z in
-    (a .0, record { ok = unless-none (lengthFits (rowOf m .c) (length (fieldOf p 0))) 14 _ (omega arith) (a .1) .0 })
+pub init-formed : (m : ℕ) (p : List ℕ) → initCause m p ≡ 0 → (messageCause initLayout p ≡ 0) × FormedC m (fieldOf p 0)
+unfolding initCause formed
+init-formed m p z =
+    let a = orElse-none (messageCause initLayout p) _ z in
+    let b = unless-none (lengthFits (rowOf m .c) (length (fieldOf p 0))) 14 _ (omega arith) (a .1) in
+    let c = unless-none (leadFits (rowOf m .c) (fieldOf p 0)) 15 0 (omega arith) (b .1) in
+    (a .0, record { ok = both (b .0) (c .0); len = b .0 })
 
-pub reply-sized : (m : ℕ) (p : List ℕ) → replyCause m p ≡ 0 → (messageCause 31 3 p ≡ 0) × Blob (fieldOf p 0) × SizedS m (fieldOf p 1)
-unfolding replyCause
-reply-sized m p z =
-    let a = orElse-none (messageCause 31 3 p) _ z in
-    let b = unless-none (blobOk (length (fieldOf p 0)) && lengthFits (rowOf m .s) (length (fieldOf p 1)) && blobOk (length (fieldOf p 2))) 14 _ (omega arith) (a .1) .0 in
-    let c = and-true (blobOk (length (fieldOf p 0)) && lengthFits (rowOf m .s) (length (fieldOf p 1))) (blobOk (length (fieldOf p 2))) b .0 in
+pub reply-formed : (m : ℕ) (p : List ℕ) → replyCause m p ≡ 0 → (messageCause replyLayout p ≡ 0) × Blob (fieldOf p 0) × FormedS m (fieldOf p 1)
+unfolding replyCause formed
+reply-formed m p z =
+    let a = orElse-none (messageCause replyLayout p) _ z in
+    let b = unless-none (blobOk (length (fieldOf p 0)) && lengthFits (rowOf m .s) (length (fieldOf p 1)) && blobOk (length (fieldOf p 2))) 14 _ (omega arith) (a .1) in
+    let l = unless-none (leadFits (rowOf m .s) (fieldOf p 1)) 15 0 (omega arith) (b .1) in
+    let c = and-true (blobOk (length (fieldOf p 0)) && lengthFits (rowOf m .s) (length (fieldOf p 1))) (blobOk (length (fieldOf p 2))) (b .0) .0 in
     let d = and-true (blobOk (length (fieldOf p 0))) (lengthFits (rowOf m .s) (length (fieldOf p 1))) c in
-    (a .0, record { ok = d .0 }, record { ok = d .1 })
+    (a .0, record { ok = d .0 }, record { ok = both (d .1) (l .0); len = d .1 })
 
 -- ---- the secret
 
--- the four judgements of an accepted secret step, and that neither primitive is to blame
+-- the judgements of an accepted secret step: X, KEM, digest, and a server's own; and neither primitive is to blame
 pub secret-known : (role m : ℕ) (cl : Classical) (x : List ℕ) (kem : Kem) (d ks s : List ℕ) → secretCause role m cl x kem d ks s ≡ 0
-    → (xOk m cl x ≡ true) × (kemOk m kem ≡ true) × (digestOk m cl kem d ≡ true) × (ownOk role m ks s ≡ true) × (xBad m cl x ≡ false) × (kemBad kem ≡ false)
-unfolding secretCause
+    → (xOk (rowOf m) cl x ≡ true) × (kemOk (rowOf m) kem ≡ true) × (digestOk (rowOf m) cl kem d ≡ true) × (ownOk role (rowOf m) ks s ≡ true)
+    × (xBad (rowOf m) cl x ≡ false) × (kemBad kem ≡ false)
+unfolding secretCause restOk
 secret-known role m cl x kem d ks s z =
-    let a = unless-none (xOk m cl x && kemOk m kem && digestOk m cl kem d && ownOk role m ks s) 4 _ (omega arith) z in
-    let b3 = and-true (xOk m cl x && kemOk m kem && digestOk m cl kem d) (ownOk role m ks s) (a .0) in
-    let b2 = and-true (xOk m cl x && kemOk m kem) (digestOk m cl kem d) (b3 .0) in
-    let b1 = and-true (xOk m cl x) (kemOk m kem) (b2 .0) in
-    let c = if-none (xBad m cl x) 16 _ (omega arith) (a .1) in
-    (b1 .0, b1 .1, b2 .1, b3 .1, c .0, if-none (kemBad kem) 17 0 (omega arith) (c .1) .0)
+    let a = unless-none (xOk (rowOf m) cl x && restOk role (rowOf m) cl kem d ks s) 4 _ (omega arith) z in
+    let b = and-true (xOk (rowOf m) cl x) (restOk role (rowOf m) cl kem d ks s) (a .0) in
+    let b2 = and-true (kemOk (rowOf m) kem && digestOk (rowOf m) cl kem d) (ownOk role (rowOf m) ks s) (b .1) in
+    let b1 = and-true (kemOk (rowOf m) kem) (digestOk (rowOf m) cl kem d) (b2 .0) in
+    let c = if-none (xBad (rowOf m) cl x) 16 _ (omega arith) (a .1) in
+    (b .0, b1 .0, b1 .1, b2 .1, c .0, if-none (kemBad kem) 17 0 (omega arith) (c .1) .0)
 
 -- a server's K_S and S
-pub own-sized : (m : ℕ) (ks s : List ℕ) → ownOk 2 m ks s ≡ true → Blob ks × SizedS m s
-own-sized m ks s e =
+pub own-formed : (m : ℕ) (ks s : List ℕ) → ownOk server (rowOf m) ks s ≡ true → Blob ks × FormedS m s
+own-formed m ks s e =
     let a = and-true (blobOk (length ks)) (formed (rowOf m .s) s) e in
-    (record { ok = a .0 }, record { ok = formed-length (rowOf m .s) s (a .1) })
+    (record { ok = a .0 }, record { ok = a .1; len = formed-length (rowOf m .s) s (a .1) })
 
 -- K's record begins with K's length
-number32-record : (b : List ℕ) → length b ≤ 4294967295 → number32 (kRecord (string b)) ≡ length b
+number32-record : (b : List ℕ) → length b ≤ stringMost → number32 (kRecord (string b)) ≡ length b
 unfolding kRecord onto
 number32-record b h = number32-string b (drop (length (string b)) (zeros kSize)) h
 
@@ -142,11 +156,13 @@ number32-record b h = number32-string b (drop (length (string b)) (zeros kSize))
 module _ (r : Method) (row : Sound r) (x d : List ℕ) where
   mpint-fits : length x ≡ r .«x_len» → r .«zero_check» && allZero x ≡ false
       → (kBodyFits Mpint r (number32 (kRecord (kBytes Mpint x d))) ≡ true) × (length (kBytes Mpint x d) ≤ 4 + mostBy Mpint (r .«x_len») (r .«digest_len»))
+      × (kLength (kRecord (kBytes Mpint x d)) ≡ length (kBytes Mpint x d))
   mpint-fits l z =
       let b = length-shortest (0 ∷ x) in
       let n = number32-record (shortest (0 ∷ x)) (omega (arith, row .x-most)) in
       let t = length-string (shortest (0 ∷ x)) in (
         ap (kBodyFits Mpint r) n ∙ rw (le-leb (length (shortest (0 ∷ x))) (r .«x_len» + 1) (omega arith)) (checked (r .«zero_check») z),
+        omega arith,
         omega arith,
       )
     where
@@ -156,15 +172,17 @@ module _ (r : Method) (row : Sound r) (x d : List ℕ) where
 
   digest-fits : length d ≡ r .«digest_len»
       → (kBodyFits Digest r (number32 (kRecord (kBytes Digest x d))) ≡ true) × (length (kBytes Digest x d) ≤ 4 + mostBy Digest (r .«x_len») (r .«digest_len»))
+      × (kLength (kRecord (kBytes Digest x d)) ≡ length (kBytes Digest x d))
   digest-fits l =
       let n = number32-record d (omega (arith, row .digest-most)) in
       let t = length-string d in
-      (ap (kBodyFits Digest r) n ∙ eq-eqb (length d) (r .«digest_len») l, omega arith)
+      (ap (kBodyFits Digest r) n ∙ eq-eqb (length d) (r .«digest_len») l, omega arith, omega arith)
 
   -- by the form, and in a hybrid by the KEM, which must be done
   by-form : (f : KForm) (n : ℕ) (kem : Kem) → length x ≡ r .«x_len» → r .«zero_check» && allZero x ≡ false
       → cond (hybrid f) (present kem) (not (present kem)) ≡ true → eqb (length d) (digestFor (Given n) kem (r .«digest_len»)) ≡ true → kemBad kem ≡ false
       → (kBodyFits f r (number32 (kRecord (kBytes f x d))) ≡ true) × (length (kBytes f x d) ≤ 4 + mostBy f (r .«x_len») (r .«digest_len»))
+      × (kLength (kRecord (kBytes f x d)) ≡ length (kBytes f x d))
   by-form Mpint n kem l z p q b = mpint-fits l z
   by-form Digest n Absent l z p q b = absurd (false≢true p)
   by-form Digest n NoKem l z p q b = absurd (false≢true (sym b))
@@ -177,4 +195,4 @@ key-sized role m (Given n) x kem d ks s mo z =
     let a = secret-known role m (Given n) x kem d ks s z in
     let lx = and-true (eqb n (rowOf m .«x_len»)) (eqb (length x) (rowOf m .«x_len»)) (a .0) .1 in
     let k = by-form (rowOf m) (method-row m mo) x d (rowOf m .«k_form») n kem (eqb-true (length x) (rowOf m .«x_len») lx) (a .4) (a .1) (a .2) (a .5) in
-    record { ok = k .0; most = k .1 }
+    record { ok = k .0; most = k .1; len = k .2 }

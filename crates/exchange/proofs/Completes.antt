@@ -1,53 +1,46 @@
 -- For each role and method there is a list of calls that completes an exchange. Assumes nothing.
-use Prim.Native.Nat.{ℕ, zero, suc, _+_, _-_, _≤_, _<_}
-use mathlib.Core.Path.{_≡_, refl, sym, ap, _∙_}
+use Prim.Native.Nat.{ℕ, zero, suc, _-_, _≤_, _<_}
+use mathlib.Core.Path.{_≡_, refl, ap, _∙_}
 use mathlib.Core.Logic.{_⊎_, ⊎-elim}
-use mathlib.Core.List.{List, [], _∷_, _++_}
+use mathlib.Core.List.{List, [], _∷_}
 use mathlib.Core.Bool.{Bool, true, false, cond, not, _&&_, _||_}
 use native.Mathlib.Omega.{arith}
 use lib.ListN.{length, getD, replicate, length-append, length-replicate}
 use lib.Seq.{getD-at}
-use lib.Dec.{eqb, leb, ltb}
+use lib.Dec.{eqb}
 use borrow.Author.Tests.{le-ltb, eq-eqb, ne-eqb}
+use Rattle.limits.specs.Limits.{kSize, roomLeast, initLeast, replyLeast, server}
+use Rattle.limits.proofs.BoolLaws.{and-false, both}
 use Rattle.buffers.specs.Bytes.{zeros}
-use Rattle.wire.proofs.CauseLaws.{if-fails, unless-holds, orElse-second}
-use Rattle.wire.proofs.StringLaws.{and-true}
-use Rattle.methods.specs.Rows.{rowOf}
-use Rattle.methods.specs.Form.{lengthFits, leadFits, formed}
+use Rattle.wire.proofs.CauseLaws.{if-fails, unless-holds}
+use Rattle.methods.specs.Rows.{hybrid, rowOf}
+use Rattle.methods.specs.Form.{formed}
 use Rattle.methods.specs.declared.KForm.{KForm}
 use Rattle.methods.specs.declared.KForm.the-variants.{Mpint, Digest}
 use Rattle.methods.specs.declared.Shape.{Shape}
-use Rattle.methods.specs.declared.Method.{Method}
-use Rattle.methods.proofs.MethodLaws.{Sound}
+use Rattle.methods.specs.Sound.{Sound}
 use Rattle.methods.proofs.FormLaws.{formed-complete}
-use Rattle.messages.specs.Messages.{within, initBytes, replyBytes, messageCause, fieldOf}
-use Rattle.messages.proofs.MessageLaws.{length-init, length-reply}
-use Rattle.messages.proofs.RoundTrip.{init-complete, reply-complete}
-use Rattle.secret.specs.Secret.{leadingZeros}
-use Rattle.exchange.specs.Causes.{roomLeast, initLeast, replyLeast, kLeast, blobOk, methodOk, roleOk, versionOk, kexinitOk, startCause, ownCCause, initCause, replyCause, xOk, hybrid, present, kemOk, digestFor, digestOk, ownOk, allZero, xBad, kemBad, secretCause, signCause, verdictCause}
-use Rattle.exchange.specs.Steps.{Call, ownC, init, reply, secret, sign, verdict, stepNo, fedCause, kind, byKind, started, startedRoom}
+use Rattle.messages.specs.Messages.{initBytes, replyBytes}
+use Rattle.exchange.specs.Causes.{methodOk, roleOk, versionOk, kexinitOk, startCause, ownCCause, initCause, replyCause, xOk, present, digestFor, ownOk, restOk, allZero, kemBad, secretCause, signCause, verdictCause}
+use Rattle.exchange.specs.Steps.{Call, ownC, init, reply, sign, verdict, stepNo, fedCause, started, startedRoom}
 use Rattle.exchange.specs.Book.{Book, opened, stepsOf, firstCause, moved, noted, hasAll, isComplete, lastBook}
 use Rattle.exchange.specs.Demand.{lastExchange}
-use Rattle.exchange.specs.Sample.{version, payload, blob, value, kemFor, digestIn, secretCall, clientCalls, serverCalls, sampleCalls}
-use Rattle.exchange.specs.declared.Classical.{Classical}
+use Rattle.exchange.proofs.KindLaws.{kind-accepted}
+use Rattle.exchange.proofs.ReadBack.{init-back, reply-back}
+use Rattle.exchange.proofs.Sample.{version, payload, blob, publicValue, kemFor, digestIn, secretCall, clientCalls, serverCalls, sampleCalls}
 use Rattle.exchange.specs.declared.Classical.the-variants.{Given}
-use Rattle.exchange.specs.declared.Kem.{Kem}
 use Rattle.exchange.proofs.CauseFacts.{method-row}
 use Rattle.exchange.proofs.Simulation.{held, role-is}
 
 -- ---- the values
 
-length-value : (h : Shape) → h .classical < h .len → length (value h) ≡ h .len
+length-value : (h : Shape) → h .classical < h .len → length (publicValue h) ≡ h .len
 length-value h k = length-append (zeros (h .classical)) (4 ∷ zeros (h .len - h .classical - 1)) ∙ omega (arith, length-replicate {A = ℕ} (h .classical) 0, length-replicate {A = ℕ} (h .len - h .classical - 1) 0)
 
-value-formed : (h : Shape) → h .classical < h .len → formed h (value h) ≡ true
+value-formed : (h : Shape) → h .classical < h .len → formed h (publicValue h) ≡ true
 value-formed h k =
-    formed-complete h (value h) (length-value h k)
+    formed-complete h (publicValue h) (length-value h k)
     (λ e. getD-at (zeros (h .classical)) 4 (zeros (h .len - h .classical - 1)) 0 (h .classical) (length-replicate (h .classical) 0))
-
-split-formed : (h : Shape) (v : List ℕ) → formed h v ≡ true → (lengthFits h (length v) ≡ true) × (leadFits h v ≡ true)
-unfolding formed
-split-formed h v e = and-true (lengthFits h (length v)) (leadFits h v) e
 
 ones-some : (n : ℕ) → 1 ≤ n → allZero (replicate n 1) ≡ false
 ones-some zero h = let w : ⊥ = omega arith in absurd w
@@ -55,32 +48,21 @@ ones-some (suc n) h = ne-eqb 0 (suc (length (replicate n 1))) (λ e. omega arith
 
 -- ---- no cause against any of the calls
 
-module _ (m : ℕ) (row : Sound (rowOf m)) where
-  own-c-fed : ownCCause m (value (rowOf m .c)) (length (zeros initLeast)) ≡ 0
+module _ (m : ℕ) (ok : methodOk m ≡ true) where
+  row : Sound (rowOf m)
+  row = method-row m ok
+
+  own-c-fed : ownCCause m (publicValue (rowOf m .c)) initLeast ≡ 0
   unfolding ownCCause
   own-c-fed =
       unless-holds _ 4 _ (value-formed (rowOf m .c) (row .c-classical))
-      ∙ if-fails _ 5 0 (le-ltb (length (zeros initLeast)) initLeast (omega (arith, length-replicate {A = ℕ} initLeast 0)))
+      ∙ if-fails _ 5 0 (le-ltb initLeast initLeast (omega arith))
 
-  init-fed : initCause m (initBytes (value (rowOf m .c))) ≡ 0
-  unfolding initCause
-  init-fed =
-      let n = length-value (rowOf m .c) (row .c-classical) in
-      let b = init-complete (value (rowOf m .c)) (omega (arith, length-init (value (rowOf m .c)), row .c-most)) in
-      let f = split-formed (rowOf m .c) (value (rowOf m .c)) (value-formed (rowOf m .c) (row .c-classical)) in
-      orElse-second _ _ (b .0)
-      ∙ unless-holds _ 14 _ (ap (λ (v : List ℕ). lengthFits (rowOf m .c) (length v)) (b .1) ∙ f .0)
-      ∙ unless-holds _ 15 0 (ap (leadFits (rowOf m .c)) (b .1) ∙ f .1)
+  init-fed : initCause m (initBytes (publicValue (rowOf m .c))) ≡ 0
+  init-fed = init-back m ok (publicValue (rowOf m .c)) initLeast own-c-fed .0
 
-  reply-fed : replyCause m (replyBytes blob (value (rowOf m .s)) blob) ≡ 0
-  unfolding replyCause
-  reply-fed =
-      let n = length-value (rowOf m .s) (row .s-classical) in
-      let b = reply-complete blob (value (rowOf m .s)) blob (omega (arith, length-reply blob (value (rowOf m .s)) blob, row .s-most)) in
-      let f = split-formed (rowOf m .s) (value (rowOf m .s)) (value-formed (rowOf m .s) (row .s-classical)) in
-      orElse-second _ _ (b .0)
-      ∙ unless-holds _ 14 _ ((λ i. blobOk (length (b .1 i)) && lengthFits (rowOf m .s) (length (b .2 i)) && blobOk (length (b .3 i))) ∙ ap (λ (t : Bool). t && true) (f .0))
-      ∙ unless-holds _ 15 0 (ap (leadFits (rowOf m .s)) (b .2) ∙ f .1)
+  reply-fed : replyCause m (replyBytes blob (publicValue (rowOf m .s)) blob) ≡ 0
+  reply-fed = reply-back m ok blob (publicValue (rowOf m .s)) blob refl (value-formed (rowOf m .s) (row .s-classical)) refl .0
 
   -- the KEM and the digest, by the form
   kem-fed : (f : KForm) → cond (hybrid f) (present (kemFor f)) (not (present (kemFor f))) ≡ true
@@ -95,35 +77,30 @@ module _ (m : ℕ) (row : Sound (rowOf m)) where
   kem-right Mpint = refl
   kem-right Digest = refl
 
-  secret-fed : (role : ℕ) (ks s : List ℕ) → ownOk role m ks s ≡ true → fedCause role m (secretCall (rowOf m) ks s) ≡ 0
-  unfolding fedCause secretCause
+  secret-fed : (role : ℕ) (ks s : List ℕ) → ownOk role (rowOf m) ks s ≡ true → fedCause role m (secretCall (rowOf m) ks s) ≡ 0
+  unfolding fedCause secretCause restOk
   secret-fed role ks s o =
-      let ones : List ℕ = replicate (rowOf m .«x_len») 1 in
-      let x : xOk m (Given (rowOf m .«x_len»)) (replicate (rowOf m .«x_len») 1) ≡ true =
-      (λ i. eq-eqb (rowOf m .«x_len») (rowOf m .«x_len») refl i && eq-eqb (length {A = ℕ} (replicate (rowOf m .«x_len») 1)) (rowOf m .«x_len») (length-replicate {A = ℕ} (rowOf m .«x_len») 1) i) in
+      let x : xOk (rowOf m) (Given (rowOf m .«x_len»)) (replicate (rowOf m .«x_len») 1) ≡ true =
+      both (eq-eqb (rowOf m .«x_len») (rowOf m .«x_len») refl) (eq-eqb (length {A = ℕ} (replicate (rowOf m .«x_len») 1)) (rowOf m .«x_len») (length-replicate {A = ℕ} (rowOf m .«x_len») 1)) in
       let z : rowOf m .«zero_check» && allZero (replicate (rowOf m .«x_len») 1) ≡ false =
       ap (λ (t : Bool). rowOf m .«zero_check» && t) (ones-some (rowOf m .«x_len») (row .x-least)) ∙ and-false (rowOf m .«zero_check») in
-      unless-holds _ 4 _ (λ i. x i && kem-fed (rowOf m .«k_form») i && digest-fed (rowOf m .«k_form») (rowOf m .«x_len») (rowOf m .«digest_len») i && o i)
+      unless-holds _ 4 _ (both x (both (both (kem-fed (rowOf m .«k_form»)) (digest-fed (rowOf m .«k_form») (rowOf m .«x_len») (rowOf m .«digest_len»))) o))
       ∙ if-fails _ 16 _ z
       ∙ if-fails _ 17 0 (kem-right (rowOf m .«k_form»))
-    where
-      and-false : (t : Bool) → t && false ≡ false
-      and-false true = refl
-      and-false false = refl
 
-  own-fed : ownOk 2 m blob (value (rowOf m .s)) ≡ true
+  own-fed : ownOk server (rowOf m) blob (publicValue (rowOf m .s)) ≡ true
   own-fed = value-formed (rowOf m .s) (row .s-classical)
 
-sign-fed : signCause blob (length (zeros replyLeast)) (length (zeros kLeast)) ≡ 0
+sign-fed : signCause blob replyLeast kSize ≡ 0
 unfolding signCause
 sign-fed =
     unless-holds _ 4 _ refl
     ∙ if-fails _ 5 0
-    (λ i. le-ltb (length (zeros replyLeast)) replyLeast (omega (arith, length-replicate {A = ℕ} replyLeast 0)) i || le-ltb (length (zeros kLeast)) kLeast (omega (arith, length-replicate {A = ℕ} kLeast 0)) i)
+    (λ i. le-ltb replyLeast replyLeast (omega arith) i || le-ltb kSize kSize (omega arith) i)
 
-verdict-fed : verdictCause true true (length (zeros kLeast)) ≡ 0
+verdict-fed : verdictCause true true kSize ≡ 0
 unfolding verdictCause
-verdict-fed = if-fails _ 5 _ (le-ltb (length (zeros kLeast)) kLeast (omega (arith, length-replicate {A = ℕ} kLeast 0))) ∙ unless-holds _ 18 0 refl
+verdict-fed = if-fails _ 5 _ (le-ltb kSize kSize (omega arith)) ∙ unless-holds _ 18 0 refl
 
 -- ---- the book
 
@@ -133,37 +110,37 @@ moves : (room : ℕ) (b : Book) (q : Call) → roomLeast ≤ room → b .faulted
 unfolding noted firstCause
 moves room b q h f n z =
     let e : firstCause room b q ≡ 0 = if-fails (b .faulted) 1 _ f ∙ unless-holds _ 1 _ n ∙ if-fails _ 3 _ (le-ltb room roomLeast h) ∙ z in
-    rw e
+    rw (kind-accepted (firstCause room b q) e)
 
-client-all : (m room : ℕ) → Sound (rowOf m) → roomLeast ≤ room → hasAll (lastBook room (opened 1 m version version payload payload) (clientCalls (rowOf m))) ≡ true
+client-all : (m room : ℕ) → methodOk m ≡ true → roomLeast ≤ room → hasAll (lastBook room (opened 1 m version version payload payload) (clientCalls (rowOf m))) ≡ true
 unfolding opened fedCause hasAll
-client-all m room row h =
-    let q1 : Call = ownC (value (rowOf m .c)) (zeros initLeast) in
-    let q2 : Call = reply (replyBytes blob (value (rowOf m .s)) blob) in
+client-all m room ok h =
+    let q1 : Call = ownC (publicValue (rowOf m .c)) initLeast in
+    let q2 : Call = reply (replyBytes blob (publicValue (rowOf m .s)) blob) in
     let q3 : Call = secretCall (rowOf m) [] [] in
-    let q4 : Call = verdict true true (zeros kLeast) in
+    let q4 : Call = verdict true true kSize in
     let b0 : Book = opened 1 m version version payload payload in
     let b1 : Book = moved b0 q1 in
     let b2 : Book = moved b1 q2 in
     let b3 : Book = moved b2 q3 in
     ap hasAll
-    (ap (λ (b : Book). noted room (noted room (noted room b q2) q3) q4) (moves room b0 q1 h refl refl (own-c-fed m row))
-    ∙ ap (λ (b : Book). noted room (noted room b q3) q4) (moves room b1 q2 h refl refl (reply-fed m row))
-    ∙ ap (λ (b : Book). noted room b q4) (moves room b2 q3 h refl refl (secret-fed m row 1 [] [] refl))
+    (ap (λ (b : Book). noted room (noted room (noted room b q2) q3) q4) (moves room b0 q1 h refl refl (own-c-fed m ok))
+    ∙ ap (λ (b : Book). noted room (noted room b q3) q4) (moves room b1 q2 h refl refl (reply-fed m ok))
+    ∙ ap (λ (b : Book). noted room b q4) (moves room b2 q3 h refl refl (secret-fed m ok 1 [] [] refl))
     ∙ moves room b3 q4 h refl refl verdict-fed)
 
-server-all : (m room : ℕ) → Sound (rowOf m) → roomLeast ≤ room → hasAll (lastBook room (opened 2 m version version payload payload) (serverCalls (rowOf m))) ≡ true
+server-all : (m room : ℕ) → methodOk m ≡ true → roomLeast ≤ room → hasAll (lastBook room (opened 2 m version version payload payload) (serverCalls (rowOf m))) ≡ true
 unfolding opened fedCause hasAll
-server-all m room row h =
-    let q1 : Call = init (initBytes (value (rowOf m .c))) in
-    let q2 : Call = secretCall (rowOf m) blob (value (rowOf m .s)) in
-    let q3 : Call = sign blob (zeros replyLeast) (zeros kLeast) in
+server-all m room ok h =
+    let q1 : Call = init (initBytes (publicValue (rowOf m .c))) in
+    let q2 : Call = secretCall (rowOf m) blob (publicValue (rowOf m .s)) in
+    let q3 : Call = sign blob replyLeast kSize in
     let b0 : Book = opened 2 m version version payload payload in
     let b1 : Book = moved b0 q1 in
     let b2 : Book = moved b1 q2 in
     ap hasAll
-    (ap (λ (b : Book). noted room (noted room b q2) q3) (moves room b0 q1 h refl refl (init-fed m row))
-    ∙ ap (λ (b : Book). noted room b q3) (moves room b1 q2 h refl refl (secret-fed m row 2 blob (value (rowOf m .s)) (own-fed m row)))
+    (ap (λ (b : Book). noted room (noted room b q2) q3) (moves room b0 q1 h refl refl (init-fed m ok))
+    ∙ ap (λ (b : Book). noted room b q3) (moves room b1 q2 h refl refl (secret-fed m ok 2 blob (publicValue (rowOf m .s)) (own-fed m ok)))
     ∙ moves room b2 q3 h refl refl sign-fed)
 
 -- ---- the samples complete
@@ -177,8 +154,8 @@ sample-all : (role m room : ℕ) → roleOk role ≡ true → methodOk m ≡ tru
 unfolding sampleCalls
 sample-all role m room r k h =
     ⊎-elim
-    (λ (e : role ≡ 1). rw e (client-all m room (method-row m k) h))
-    (λ (e : role ≡ 2). rw e (server-all m room (method-row m k) h))
+    (λ (e : role ≡ 1). rw e (client-all m room k h))
+    (λ (e : role ≡ 2). rw e (server-all m room k h))
     (role-is role r)
 
 -- for each role and method: the start is accepted, and the sample calls leave an exchange that records itself complete

@@ -1,19 +1,16 @@
 -- Laws of `specs/Record.antt`: a record that fits has its next step due, a failed one none. Assumes nothing.
-use Prim.Native.Nat.{ℕ, _+_, _≤_}
-use mathlib.Core.Path.{_≡_, refl, sym, ap, _∙_}
-use mathlib.Core.List.{List}
-use mathlib.Core.Bool.{Bool, true, false, cond, _&&_, false≢true}
-use native.Mathlib.Omega.{arith}
-use lib.Dec.{eqb, leb}
-use borrow.Author.Tests.{eqb-true, leb-true}
-use Rattle.wire.specs.Strings.{number32}
-use Rattle.wire.proofs.StringLaws.{and-true}
+use Prim.Native.Nat.{ℕ}
+use mathlib.Core.Path.{_≡_, refl, _∙_}
+use mathlib.Core.Bool.{Bool, true, false, cond, _&&_}
+use lib.Dec.{eqb}
+use borrow.Author.Tests.{eqb-true}
+use Rattle.limits.specs.Limits.{versionMost, kexinitMost, client, server}
+use Rattle.limits.specs.Range.{within}
+use Rattle.limits.proofs.BoolLaws.{and-true}
 use Rattle.methods.specs.Rows.{rowOf}
-use Rattle.methods.specs.Form.{lengthFits}
 use Rattle.methods.specs.declared.Method.{Method}
-use Rattle.messages.specs.Messages.{within}
-use Rattle.exchange.specs.Causes.{methodOk, blobOk}
-use Rattle.exchange.specs.Record.{nextStep, hasC, hasS, hasK, cFits, sFits, lengthsFit, kBodyFits, kFits, due}
+use Rattle.exchange.specs.Causes.{methodOk}
+use Rattle.exchange.specs.Record.{nextStep, cFits, sFits, lengthsFit, kFits, due}
 use Rattle.exchange.specs.declared.Stage.{Stage}
 use Rattle.exchange.specs.declared.Stage.the-variants.{Failed}
 use Rattle.exchange.specs.declared.Lengths.{Lengths}
@@ -22,16 +19,16 @@ use Rattle.exchange.specs.declared.Exchange.{Exchange}
 -- ---- lengthsFit
 
 pub lengths-fit : (r : Method) (stage : Stage) (l : Lengths)
-    → within 1 253 (l .vc) ≡ true → within 1 253 (l .vs) ≡ true → within 1 4096 (l .ic) ≡ true → within 1 4096 (l .is) ≡ true
+    → within 1 versionMost (l .vc) ≡ true → within 1 versionMost (l .vs) ≡ true → within 1 kexinitMost (l .ic) ≡ true → within 1 kexinitMost (l .is) ≡ true
     → cFits r stage l ≡ true → sFits r stage l ≡ true → lengthsFit r stage l ≡ true
 unfolding lengthsFit
 lengths-fit r stage l a b c d e f = (λ i. a i && b i && c i && d i && e i && f i)
 
 pub record Fitting (r : Method) (stage : Stage) (l : Lengths) : Type 0 where
-  pub vc : within 1 253 (l .vc) ≡ true
-  pub vs : within 1 253 (l .vs) ≡ true
-  pub ic : within 1 4096 (l .ic) ≡ true
-  pub is : within 1 4096 (l .is) ≡ true
+  pub vc : within 1 versionMost (l .vc) ≡ true
+  pub vs : within 1 versionMost (l .vs) ≡ true
+  pub ic : within 1 kexinitMost (l .ic) ≡ true
+  pub is : within 1 kexinitMost (l .is) ≡ true
   pub c : cFits r stage l ≡ true
   pub s : sFits r stage l ≡ true
 
@@ -39,11 +36,11 @@ pub record Fitting (r : Method) (stage : Stage) (l : Lengths) : Type 0 where
 pub fitting : (r : Method) (stage : Stage) (l : Lengths) → lengthsFit r stage l ≡ true → Fitting r stage l
 unfolding lengthsFit
 fitting r stage l e =
-    let e5 = and-true (within 1 253 (l .vc) && within 1 253 (l .vs) && within 1 4096 (l .ic) && within 1 4096 (l .is) && cFits r stage l) (sFits r stage l) e in
-    let e4 = and-true (within 1 253 (l .vc) && within 1 253 (l .vs) && within 1 4096 (l .ic) && within 1 4096 (l .is)) (cFits r stage l) (e5 .0) in
-    let e3 = and-true (within 1 253 (l .vc) && within 1 253 (l .vs) && within 1 4096 (l .ic)) (within 1 4096 (l .is)) (e4 .0) in
-    let e2 = and-true (within 1 253 (l .vc) && within 1 253 (l .vs)) (within 1 4096 (l .ic)) (e3 .0) in
-    let e1 = and-true (within 1 253 (l .vc)) (within 1 253 (l .vs)) (e2 .0) in
+    let e5 = and-true (within 1 versionMost (l .vc) && within 1 versionMost (l .vs) && within 1 kexinitMost (l .ic) && within 1 kexinitMost (l .is) && cFits r stage l) (sFits r stage l) e in
+    let e4 = and-true (within 1 versionMost (l .vc) && within 1 versionMost (l .vs) && within 1 kexinitMost (l .ic) && within 1 kexinitMost (l .is)) (cFits r stage l) (e5 .0) in
+    let e3 = and-true (within 1 versionMost (l .vc) && within 1 versionMost (l .vs) && within 1 kexinitMost (l .ic)) (within 1 kexinitMost (l .is)) (e4 .0) in
+    let e2 = and-true (within 1 versionMost (l .vc) && within 1 versionMost (l .vs)) (within 1 kexinitMost (l .ic)) (e3 .0) in
+    let e1 = and-true (within 1 versionMost (l .vc)) (within 1 versionMost (l .vs)) (e2 .0) in
     record { vc = e1 .0; vs = e1 .1; ic = e2 .1; is = e3 .1; c = e4 .1; s = e5 .1 }
 
 -- ---- due
@@ -79,7 +76,7 @@ due-known n e d =
 
 -- nothing comes next on a failed exchange
 pub next-failed : (role n : ℕ) → nextStep role (Failed n) ≡ 0
-next-failed role n = by-test (eqb role 1) (eqb role 2)
+next-failed role n = by-test (eqb role client) (eqb role server)
   where
     by-test : (t u : Bool) → _≡_ {A = ℕ} (cond t 0 (cond u 0 0)) 0
     by-test true u = refl

@@ -1,13 +1,14 @@
 -- Laws of the hash input: its length by the recorded lengths, and how the room follows it. Assumes nothing.
-use Prim.Native.Nat.{ℕ, zero, suc, _+_, _-_, _≤_}
+use Prim.Native.Nat.{ℕ, _+_, _-_, _<_}
 use mathlib.Core.Path.{_≡_, refl, sym, ap, _∙_}
-use mathlib.Core.List.{List, [], _∷_, _++_, append-assoc, append-nil}
-use native.Mathlib.Omega.{arith}
+use mathlib.Core.List.{List, [], _++_, append-assoc, append-nil}
 use lib.ListN.{length, take, drop, length-append}
+use lib.Seq.{take-at, drop-at}
 use Rattle.buffers.specs.Bytes.{onto, over}
+use Rattle.wire.specs.Strings.{bytes32, string}
 use Rattle.transcript.specs.Fields.{field, fieldLength}
-use Rattle.transcript.proofs.RoomLaws.{length-field, over-onto, inserted}
-use Rattle.exchange.specs.Steps.{headEnd, fieldsEnd, standingC}
+use Rattle.transcript.proofs.RoomLaws.{length-field, field-some, over-onto, inserted}
+use Rattle.exchange.specs.Steps.{headEnd, fieldsEnd, standingC, standingKS, standingS}
 use Rattle.exchange.specs.Book.{Fields, hashInput}
 use Rattle.exchange.specs.declared.Lengths.{Lengths}
 
@@ -111,3 +112,33 @@ module _ (vc vs ic is : List ℕ) where
         (ap (λ (x : List ℕ). headIn vc vs ic is ++ x) (sym (append-assoc (field ks ++ field c) (field s) k))
         ∙ sym (append-assoc (headIn vc vs ic is) (field ks ++ field c ++ field s) k)
         ∙ ap (λ (x : List ℕ). x ++ k) (sym (append-assoc (headIn vc vs ic is ++ field ks) (field c) (field s) ∙ append-assoc (headIn vc vs ic is) (field ks) (field c ++ field s) ∙ ap (λ (x : List ℕ). headIn vc vs ic is ++ x) (sym (append-assoc (field ks) (field c) (field s))))))
+
+-- ---- K_S and S, as they stand in a room that begins with the hash input
+
+middle : (l p q r : List ℕ) (n m : ℕ) → l ≡ p ++ (q ++ r) → length p ≡ n → length q ≡ m → take m (drop n l) ≡ q
+middle l p q r n m e a b = ap (λ (x : List ℕ). take m (drop n x)) e ∙ ap (take m) (drop-at p (q ++ r) n a) ∙ take-at q r m b
+
+module _ (vc vs ic is room ks c s k : List ℕ) where
+  pub ks-stands : 0 < length ks → standingKS (lengthsIn (fieldsOf vc vs ic is ks c s k)) (onto room (hashInput (fieldsOf vc vs ic is ks c s k))) ≡ ks
+  unfolding hashInput onto string
+  ks-stands h =
+      let end : List ℕ = drop (length (hashInput (fieldsOf vc vs ic is ks c s k))) room in
+      let n = head-length vc vs ic is (lengthsIn (fieldsOf vc vs ic is ks c s k)) refl refl refl refl in
+      middle _ (headIn vc vs ic is ++ bytes32 (length ks)) ks (field c ++ (field s ++ (k ++ end))) _ _
+      (ap (λ (x : List ℕ). (headIn vc vs ic is ++ x ++ field c ++ field s ++ k) ++ end) (field-some ks h) ∙ simp append-assoc)
+      (length-append (headIn vc vs ic is) (bytes32 (length ks)) ∙ ap (λ (x : ℕ). x + 4) (sym n))
+      refl
+
+  pub s-stands : 0 < length s → standingS (lengthsIn (fieldsOf vc vs ic is ks c s k)) (onto room (hashInput (fieldsOf vc vs ic is ks c s k))) ≡ s
+  unfolding hashInput onto string
+  s-stands h =
+      let end : List ℕ = drop (length (hashInput (fieldsOf vc vs ic is ks c s k))) room in
+      let n = head-length vc vs ic is (lengthsIn (fieldsOf vc vs ic is ks c s k)) refl refl refl refl in
+      middle _ (headIn vc vs ic is ++ field ks ++ field c ++ bytes32 (length s)) s (k ++ end) _ _
+      (ap (λ (x : List ℕ). (headIn vc vs ic is ++ field ks ++ field c ++ x ++ k) ++ end) (field-some s h) ∙ simp append-assoc)
+      (length-append (headIn vc vs ic is ++ field ks ++ field c) (bytes32 (length s))
+      ∙ ap (λ (x : ℕ). x + 4)
+      (length-append (headIn vc vs ic is ++ field ks) (field c)
+      ∙ ap (λ (x : ℕ). x + length (field c)) (length-append (headIn vc vs ic is) (field ks))
+      ∙ (λ i. sym n i + length-field ks i + length-field c i)))
+      refl

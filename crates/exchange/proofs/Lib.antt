@@ -1,8 +1,11 @@
+pub mod KindLaws
 pub mod CauseFacts
 pub mod DueLaws
 pub mod HashLaws
-pub mod KindLaws
 pub mod StepLaws
 pub mod TableLaws
+pub mod ReadBack
 pub mod Simulation
+pub mod HandedLaws
+pub mod Sample
 pub mod Completes

@@ -3,59 +3,61 @@ use Prim.Native.Nat.{ℕ, zero, suc, _+_, _≤_, zero-le}
 use mathlib.Core.Path.{_≡_, refl, sym, ap, ap₂, _∙_}
 use mathlib.Core.Logic.{_⊎_, inl, inr, ⊎-elim}
 use mathlib.Core.List.{List, [], _∷_, _++_, append-nil}
-use mathlib.Core.Bool.{Bool, true, false, cond, not, _&&_, _||_, false≢true}
+use mathlib.Core.Bool.{Bool, true, false, cond, not, _||_, false≢true}
 use native.Mathlib.Omega.{arith}
 use lib.ListN.{length, getD}
-use lib.Dec.{eqb, leb, ltb, eqb·suc-zero}
+use lib.Dec.{eqb, ltb}
 use borrow.Author.Tests.{eqb-true, eqb-false, le-ltb}
+use Rattle.limits.specs.Limits.{versionMost, kexinitMost, blobMost, kSize, roomLeast, replyLeast}
+use Rattle.limits.proofs.BoolLaws.{both}
+use Rattle.limits.proofs.RangeLaws.{within-least, within-most}
 use Rattle.buffers.specs.Bytes.{zeros, onto}
 use Rattle.wire.specs.Causes.{causeIf, causeUnless}
 use Rattle.buffers.proofs.ByteLaws.{length-onto}
 use Rattle.wire.proofs.CauseLaws.{if-none, unless-none}
 use Rattle.methods.specs.Rows.{rowOf, kMost}
-use Rattle.methods.specs.Form.{lengthFits}
 use Rattle.methods.proofs.FormLaws.{length-most}
-use Rattle.messages.specs.Messages.{within, fieldOf}
-use Rattle.messages.proofs.MessageLaws.{within-least, within-most}
-use Rattle.transcript.specs.Fields.{field, fieldLength}
+use Rattle.messages.specs.Messages.{fieldOf}
+use Rattle.transcript.specs.Fields.{field}
 use Rattle.transcript.proofs.RoomLaws.{fieldLength-most}
-use Rattle.secret.specs.Secret.{kSize}
-use Rattle.exchange.specs.Causes.{roomLeast, replyLeast, kLeast, blobOk, roleOk, startCause, signCause}
-use Rattle.exchange.specs.Record.{ended, noLengths, nextStep, cFits, sFits, kFits, due}
-use Rattle.exchange.specs.Steps.{Call, ownC, init, reply, secret, sign, verdict, stepNo, fedCause, number, numbered, Kind, accepted, refused, fault, kind, byKind, fieldsEnd, filled, taken, kRecord, exchangeAfter, roomAfter, started, startedRoom}
-use Rattle.exchange.proofs.TableLaws.{OfEach, if-keeps, unless-keeps, fed-keeps, noted-kind}
-use Rattle.exchange.specs.Book.{Fields, Book, noFields, opened, stepsOf, firstCause, joined, moved, dropped, noted, hasAll, hashInput, roomTold, isComplete, causes, lastBook}
-use Rattle.exchange.specs.Demand.{numbersOf, lastExchange, lastRoom, Never, Held}
+use Rattle.exchange.specs.Numbers.{isFault, Kind, accepted, refused, fault, kind, byKind}
+use Rattle.exchange.specs.Causes.{blobOk, roleOk, startCause, signCause}
+use Rattle.exchange.specs.Record.{ended, nextStep, cFits, sFits, kFits, due}
+use Rattle.exchange.specs.Steps.{Call, ownC, init, reply, secret, sign, verdict, stepNo, fedCause, number, stepNumber, filled, taken, kRecord, exchangeAfter, roomAfter, started, startedRoom}
+use Rattle.exchange.proofs.KindLaws.{kind-is-accepted, kind-fault, kind-refused}
+use Rattle.exchange.proofs.TableLaws.{OfEach, if-keeps, unless-keeps, fed-keeps}
+use Rattle.exchange.specs.Book.{Fields, Book, noFields, opened, stepsOf, firstCause, fieldsAfter, moved, dropped, noted, hasAll, hashInput, roomTold, isComplete, causes, lastBook}
+use Rattle.exchange.specs.Demand.{numbersOf, lastExchange, lastRoom, Never, AllOnes, SilentAfterFault, Held}
 use Rattle.exchange.specs.declared.Stage.{Stage}
 use Rattle.exchange.specs.declared.Stage.the-variants.{Started, CSent, InitRead, ReplyRead, SecretDone, Complete, Failed}
 use Rattle.exchange.specs.declared.Exchange.{Exchange}
 use Rattle.exchange.specs.declared.Step.{Step}
-use Rattle.exchange.proofs.CauseFacts.{Base, SizedC, SizedS, Blob, Key, method-row, start-known, own-c-sized, init-sized, reply-sized, secret-known, own-sized, key-sized}
+use Rattle.exchange.proofs.CauseFacts.{Base, FormedC, FormedS, Blob, Key, method-row, start-known, own-c-formed, init-formed, reply-formed, secret-known, own-formed, key-sized}
 use Rattle.exchange.proofs.DueLaws.{lengths-fit, due-fits, next-failed}
 use Rattle.exchange.proofs.HashLaws.{fieldsOf, lengthsIn, hash-length, room-c, room-k, room-reply, room-secret}
 
-abbrev book : ℕ → ℕ → ℕ → Fields → Book
+abbrev pub book : ℕ → ℕ → ℕ → Fields → Book
 book role m done f = record { role = role; method = m; done = done; fields = f; faulted = false }
 
 -- the books that can be reached without a fault: one for each role and number of steps done
-data Sound : Book → Type 0 where
-  client0 : {m : ℕ} {vc vs ic is : List ℕ} → Base m vc vs ic is → Sound (book 1 m 0 (fieldsOf vc vs ic is [] [] [] []))
-  client1 : {m : ℕ} {vc vs ic is c : List ℕ} → Base m vc vs ic is → SizedC m c → Sound (book 1 m 1 (fieldsOf vc vs ic is [] c [] []))
-  client2 : {m : ℕ} {vc vs ic is ks c s : List ℕ} → Base m vc vs ic is → SizedC m c → Blob ks → SizedS m s → Sound (book 1 m 2 (fieldsOf vc vs ic is ks c s []))
-  client3 : {m : ℕ} {vc vs ic is ks c s k : List ℕ} → Base m vc vs ic is → SizedC m c → Blob ks → SizedS m s → Key m k → Sound (book 1 m 3 (fieldsOf vc vs ic is ks c s k))
-  client4 : {m : ℕ} {vc vs ic is ks c s k : List ℕ} → Base m vc vs ic is → SizedC m c → Blob ks → SizedS m s → Key m k → Sound (book 1 m 4 (fieldsOf vc vs ic is ks c s k))
-  server0 : {m : ℕ} {vc vs ic is : List ℕ} → Base m vc vs ic is → Sound (book 2 m 0 (fieldsOf vc vs ic is [] [] [] []))
-  server1 : {m : ℕ} {vc vs ic is c : List ℕ} → Base m vc vs ic is → SizedC m c → Sound (book 2 m 1 (fieldsOf vc vs ic is [] c [] []))
-  server2 : {m : ℕ} {vc vs ic is ks c s k : List ℕ} → Base m vc vs ic is → SizedC m c → Blob ks → SizedS m s → Key m k → Sound (book 2 m 2 (fieldsOf vc vs ic is ks c s k))
-  server3 : {m : ℕ} {vc vs ic is ks c s k : List ℕ} → Base m vc vs ic is → SizedC m c → Blob ks → SizedS m s → Key m k → Sound (book 2 m 3 (fieldsOf vc vs ic is ks c s k))
+pub data Reachable : Book → Type 0 where
+  client0 : {m : ℕ} {vc vs ic is : List ℕ} → Base m vc vs ic is → Reachable (book 1 m 0 (fieldsOf vc vs ic is [] [] [] []))
+  client1 : {m : ℕ} {vc vs ic is c : List ℕ} → Base m vc vs ic is → FormedC m c → Reachable (book 1 m 1 (fieldsOf vc vs ic is [] c [] []))
+  client2 : {m : ℕ} {vc vs ic is ks c s : List ℕ} → Base m vc vs ic is → FormedC m c → Blob ks → FormedS m s → Reachable (book 1 m 2 (fieldsOf vc vs ic is ks c s []))
+  client3 : {m : ℕ} {vc vs ic is ks c s k : List ℕ} → Base m vc vs ic is → FormedC m c → Blob ks → FormedS m s → Key m k → Reachable (book 1 m 3 (fieldsOf vc vs ic is ks c s k))
+  client4 : {m : ℕ} {vc vs ic is ks c s k : List ℕ} → Base m vc vs ic is → FormedC m c → Blob ks → FormedS m s → Key m k → Reachable (book 1 m 4 (fieldsOf vc vs ic is ks c s k))
+  server0 : {m : ℕ} {vc vs ic is : List ℕ} → Base m vc vs ic is → Reachable (book 2 m 0 (fieldsOf vc vs ic is [] [] [] []))
+  server1 : {m : ℕ} {vc vs ic is c : List ℕ} → Base m vc vs ic is → FormedC m c → Reachable (book 2 m 1 (fieldsOf vc vs ic is [] c [] []))
+  server2 : {m : ℕ} {vc vs ic is ks c s k : List ℕ} → Base m vc vs ic is → FormedC m c → Blob ks → FormedS m s → Key m k → Reachable (book 2 m 2 (fieldsOf vc vs ic is ks c s k))
+  server3 : {m : ℕ} {vc vs ic is ks c s k : List ℕ} → Base m vc vs ic is → FormedC m c → Blob ks → FormedS m s → Key m k → Reachable (book 2 m 3 (fieldsOf vc vs ic is ks c s k))
 
 -- ---- the exchange that a book without a fault tells
 
-abbrev stagesOf : ℕ → List Stage
+abbrev pub stagesOf : ℕ → List Stage
 stagesOf role = cond (eqb role 1) (Started ∷ CSent ∷ ReplyRead ∷ SecretDone ∷ Complete ∷ []) (Started ∷ InitRead ∷ SecretDone ∷ Complete ∷ [])
 
-abbrev told : Book → Exchange
-told b = record {
+abbrev pub exchangeOf : Book → Exchange
+exchangeOf b = record {
   stage = getD (stagesOf (b .role)) (b .done) Complete;
   role = b .role;
   method = b .method;
@@ -65,37 +67,34 @@ told b = record {
 
 -- a step is due on it exactly where it is the role's next in the book
 due-is : (b : Book) (q : Call) → Base (b .method) (b .fields .vc) (b .fields .vs) (b .fields .ic) (b .fields .is)
-    → cFits (rowOf (b .method)) (told b .stage) (lengthsIn (b .fields)) ≡ true → sFits (rowOf (b .method)) (told b .stage) (lengthsIn (b .fields)) ≡ true
-    → kFits (rowOf (b .method)) (told b .stage) (kRecord (b .fields .k)) ≡ true
-    → due (stepNo q) (told b) ≡ eqb (nextStep (b .role) (told b .stage)) (stepNo q)
+    → cFits (rowOf (b .method)) (exchangeOf b .stage) (lengthsIn (b .fields)) ≡ true → sFits (rowOf (b .method)) (exchangeOf b .stage) (lengthsIn (b .fields)) ≡ true
+    → kFits (rowOf (b .method)) (exchangeOf b .stage) (kRecord (b .fields .k)) ≡ true
+    → due (stepNo q) (exchangeOf b) ≡ eqb (nextStep (b .role) (exchangeOf b .stage)) (stepNo q)
 due-is b q a c s k =
-    due-fits (stepNo q) (told b) (a .method-ok) (lengths-fit (rowOf (b .method)) (told b .stage) (lengthsIn (b .fields)) (a .vc-ok) (a .vs-ok) (a .ic-ok) (a .is-ok) c s) k
+    due-fits (stepNo q) (exchangeOf b) (a .method-ok) (lengths-fit (rowOf (b .method)) (exchangeOf b .stage) (lengthsIn (b .fields)) (a .vc-ok) (a .vs-ok) (a .ic-ok) (a .is-ok) c s) k
 
-both : {t u : Bool} → t ≡ true → u ≡ true → t && u ≡ true
-both p q = (λ i. p i && q i)
-
-due-told : {b : Book} → Sound b → (q : Call) → due (stepNo q) (told b) ≡ eqb (getD (stepsOf (b .role)) (b .done) 0) (stepNo q)
+due-of-book : {b : Book} → Reachable b → (q : Call) → due (stepNo q) (exchangeOf b) ≡ eqb (getD (stepsOf (b .role)) (b .done) 0) (stepNo q)
 unfolding cFits sFits kFits
-due-told (client0 {m} {vc} {vs} {ic} {is} a) q = due-is (book 1 m 0 (fieldsOf vc vs ic is [] [] [] [])) q a refl refl refl
-due-told (client1 {m} {vc} {vs} {ic} {is} {c = fc} a c) q = due-is (book 1 m 1 (fieldsOf vc vs ic is [] fc [] [])) q a (c .ok) refl refl
-due-told (client2 {m} {vc} {vs} {ic} {is} {ks = fk} {c = fc} {s = fs} a c k s) q = due-is (book 1 m 2 (fieldsOf vc vs ic is fk fc fs [])) q a (c .ok) (both (k .ok) (s .ok)) refl
-due-told (client3 {m} {vc} {vs} {ic} {is} {ks = fk} {c = fc} {s = fs} {k = ky} a c k s y) q = due-is (book 1 m 3 (fieldsOf vc vs ic is fk fc fs ky)) q a (c .ok) (both (k .ok) (s .ok)) (y .ok)
-due-told (client4 {m} {vc} {vs} {ic} {is} {ks = fk} {c = fc} {s = fs} {k = ky} a c k s y) q = due-is (book 1 m 4 (fieldsOf vc vs ic is fk fc fs ky)) q a (c .ok) (both (k .ok) (s .ok)) (y .ok)
-due-told (server0 {m} {vc} {vs} {ic} {is} a) q = due-is (book 2 m 0 (fieldsOf vc vs ic is [] [] [] [])) q a refl refl refl
-due-told (server1 {m} {vc} {vs} {ic} {is} {c = fc} a c) q = due-is (book 2 m 1 (fieldsOf vc vs ic is [] fc [] [])) q a (c .ok) refl refl
-due-told (server2 {m} {vc} {vs} {ic} {is} {ks = fk} {c = fc} {s = fs} {k = ky} a c k s y) q = due-is (book 2 m 2 (fieldsOf vc vs ic is fk fc fs ky)) q a (c .ok) (both (k .ok) (s .ok)) (y .ok)
-due-told (server3 {m} {vc} {vs} {ic} {is} {ks = fk} {c = fc} {s = fs} {k = ky} a c k s y) q = due-is (book 2 m 3 (fieldsOf vc vs ic is fk fc fs ky)) q a (c .ok) (both (k .ok) (s .ok)) (y .ok)
+due-of-book (client0 {m} {vc} {vs} {ic} {is} a) q = due-is (book 1 m 0 (fieldsOf vc vs ic is [] [] [] [])) q a refl refl refl
+due-of-book (client1 {m} {vc} {vs} {ic} {is} {c = fc} a c) q = due-is (book 1 m 1 (fieldsOf vc vs ic is [] fc [] [])) q a (c .len) refl refl
+due-of-book (client2 {m} {vc} {vs} {ic} {is} {ks = fk} {c = fc} {s = fs} a c k s) q = due-is (book 1 m 2 (fieldsOf vc vs ic is fk fc fs [])) q a (c .len) (both (k .ok) (s .len)) refl
+due-of-book (client3 {m} {vc} {vs} {ic} {is} {ks = fk} {c = fc} {s = fs} {k = ky} a c k s y) q = due-is (book 1 m 3 (fieldsOf vc vs ic is fk fc fs ky)) q a (c .len) (both (k .ok) (s .len)) (y .ok)
+due-of-book (client4 {m} {vc} {vs} {ic} {is} {ks = fk} {c = fc} {s = fs} {k = ky} a c k s y) q = due-is (book 1 m 4 (fieldsOf vc vs ic is fk fc fs ky)) q a (c .len) (both (k .ok) (s .len)) (y .ok)
+due-of-book (server0 {m} {vc} {vs} {ic} {is} a) q = due-is (book 2 m 0 (fieldsOf vc vs ic is [] [] [] [])) q a refl refl refl
+due-of-book (server1 {m} {vc} {vs} {ic} {is} {c = fc} a c) q = due-is (book 2 m 1 (fieldsOf vc vs ic is [] fc [] [])) q a (c .len) refl refl
+due-of-book (server2 {m} {vc} {vs} {ic} {is} {ks = fk} {c = fc} {s = fs} {k = ky} a c k s y) q = due-is (book 2 m 2 (fieldsOf vc vs ic is fk fc fs ky)) q a (c .len) (both (k .ok) (s .len)) (y .ok)
+due-of-book (server3 {m} {vc} {vs} {ic} {is} {ks = fk} {c = fc} {s = fs} {k = ky} a c k s y) q = due-is (book 2 m 3 (fieldsOf vc vs ic is fk fc fs ky)) q a (c .len) (both (k .ok) (s .len)) (y .ok)
 
 -- ---- an accepted call
 
-record Follows (room : List ℕ) (b : Book) (q : Call) : Type 0 where
-  sound : Sound (moved b q)
-  exchange : taken (told b) q ≡ told (moved b q)
-  room-is : filled (told b) (onto room (hashInput (b .fields))) q ≡ onto room (hashInput (joined (b .role) (b .method) (b .fields) q))
+pub record Follows (room : List ℕ) (b : Book) (q : Call) : Type 0 where
+  pub sound : Reachable (moved b q)
+  pub exchange : taken (exchangeOf b) q ≡ exchangeOf (moved b q)
+  pub room-is : filled (exchangeOf b) (onto room (hashInput (b .fields))) q ≡ onto room (hashInput (fieldsAfter (b .role) (b .method) (b .fields) q))
 
-accepts : (room : List ℕ) {b : Book} → Sound b → (q : Call) → eqb (getD (stepsOf (b .role)) (b .done) 0) (stepNo q) ≡ true → fedCause (b .role) (b .method) q ≡ 0 → Follows room b q
-unfolding fedCause joined taken filled
-accepts room (client0 a) (ownC c′ out) e z = record { sound = client1 a (own-c-sized _ c′ _ z); exchange = refl; room-is = room-c _ _ _ _ room c′ }
+pub accepts : (room : List ℕ) {b : Book} → Reachable b → (q : Call) → eqb (getD (stepsOf (b .role)) (b .done) 0) (stepNo q) ≡ true → fedCause (b .role) (b .method) q ≡ 0 → Follows room b q
+unfolding fedCause fieldsAfter taken filled
+accepts room (client0 a) (ownC c′ out) e z = record { sound = client1 a (own-c-formed _ c′ _ z); exchange = refl; room-is = room-c _ _ _ _ room c′ }
 accepts room (client0 a) (init p) e z = absurd (false≢true e)
 accepts room (client0 a) (reply p) e z = absurd (false≢true e)
 accepts room (client0 a) (secret cl x kem d ks′ s′) e z = absurd (false≢true e)
@@ -103,7 +102,7 @@ accepts room (client0 a) (sign g out kOut) e z = absurd (false≢true e)
 accepts room (client0 a) (verdict u v kOut) e z = absurd (false≢true e)
 accepts room (client1 a c) (ownC c′ out) e z = absurd (false≢true e)
 accepts room (client1 a c) (init p) e z = absurd (false≢true e)
-accepts room (client1 a c) (reply p) e z = let r = reply-sized _ p z in record { sound = client2 a c (r .1) (r .2); exchange = refl; room-is = room-reply _ _ _ _ room (fieldOf p 0) _ (fieldOf p 1) }
+accepts room (client1 a c) (reply p) e z = let r = reply-formed _ p z in record { sound = client2 a c (r .1) (r .2); exchange = refl; room-is = room-reply _ _ _ _ room (fieldOf p 0) _ (fieldOf p 1) }
 accepts room (client1 a c) (secret cl x kem d ks′ s′) e z = absurd (false≢true e)
 accepts room (client1 a c) (sign g out kOut) e z = absurd (false≢true e)
 accepts room (client1 a c) (verdict u v kOut) e z = absurd (false≢true e)
@@ -126,7 +125,7 @@ accepts room (client4 a c k s y) (secret cl x kem d ks′ s′) e z = absurd (fa
 accepts room (client4 a c k s y) (sign g out kOut) e z = absurd (false≢true e)
 accepts room (client4 a c k s y) (verdict u v kOut) e z = absurd (false≢true e)
 accepts room (server0 a) (ownC c′ out) e z = absurd (false≢true e)
-accepts room (server0 a) (init p) e z = record { sound = server1 a (init-sized _ p z .1); exchange = refl; room-is = room-c _ _ _ _ room (fieldOf p 0) }
+accepts room (server0 a) (init p) e z = record { sound = server1 a (init-formed _ p z .1); exchange = refl; room-is = room-c _ _ _ _ room (fieldOf p 0) }
 accepts room (server0 a) (reply p) e z = absurd (false≢true e)
 accepts room (server0 a) (secret cl x kem d ks′ s′) e z = absurd (false≢true e)
 accepts room (server0 a) (sign g out kOut) e z = absurd (false≢true e)
@@ -134,7 +133,7 @@ accepts room (server0 a) (verdict u v kOut) e z = absurd (false≢true e)
 accepts room (server1 a c) (ownC c′ out) e z = absurd (false≢true e)
 accepts room (server1 a c) (init p) e z = absurd (false≢true e)
 accepts room (server1 a c) (reply p) e z = absurd (false≢true e)
-accepts room (server1 a c) (secret cl x kem d ks′ s′) e z = let o = own-sized _ ks′ s′ (secret-known 2 _ cl x kem d ks′ s′ z .3) in record { sound = server2 a c (o .0) (o .1) (key-sized 2 _ cl x kem d ks′ s′ (a .method-ok) z); exchange = refl; room-is = room-secret _ _ _ _ room ks′ _ s′ _ }
+accepts room (server1 a c) (secret cl x kem d ks′ s′) e z = let o = own-formed _ ks′ s′ (secret-known 2 _ cl x kem d ks′ s′ z .3) in record { sound = server2 a c (o .0) (o .1) (key-sized 2 _ cl x kem d ks′ s′ (a .method-ok) z); exchange = refl; room-is = room-secret _ _ _ _ room ks′ _ s′ _ }
 accepts room (server1 a c) (sign g out kOut) e z = absurd (false≢true e)
 accepts room (server1 a c) (verdict u v kOut) e z = absurd (false≢true e)
 accepts room (server2 a c k s y) (ownC c′ out) e z = absurd (false≢true e)
@@ -152,25 +151,25 @@ accepts room (server3 a c k s y) (verdict u v kOut) e z = absurd (false≢true e
 
 -- ---- the fields never pass the least room
 
-sized-c : {m : ℕ} {c : List ℕ} → SizedC m c → length c ≤ rowOf m .c .len
-sized-c {m} {c} h = length-most (rowOf m .c) (length c) (h .ok)
+sized-c : {m : ℕ} {c : List ℕ} → FormedC m c → length c ≤ rowOf m .c .len
+sized-c {m} {c} h = length-most (rowOf m .c) (length c) (h .len)
 
-sized-s : {m : ℕ} {s : List ℕ} → SizedS m s → length s ≤ rowOf m .s .len
-sized-s {m} {s} h = length-most (rowOf m .s) (length s) (h .ok)
+sized-s : {m : ℕ} {s : List ℕ} → FormedS m s → length s ≤ rowOf m .s .len
+sized-s {m} {s} h = length-most (rowOf m .s) (length s) (h .len)
 
-blob-most : {ks : List ℕ} → Blob ks → length ks ≤ 2048
-blob-most {ks} h = within-most 1 2048 (length ks) (h .ok)
+blob-most : {ks : List ℕ} → Blob ks → length ks ≤ blobMost
+blob-most {ks} h = within-most 1 blobMost (length ks) (h .ok)
 
-sum-most : (m : ℕ) (vc vs ic is ks c s k : List ℕ) → Base m vc vs ic is → length ks ≤ 2048 → length c ≤ rowOf m .c .len → length s ≤ rowOf m .s .len → length k ≤ 4 + kMost (rowOf m)
+sum-most : (m : ℕ) (vc vs ic is ks c s k : List ℕ) → Base m vc vs ic is → length ks ≤ blobMost → length c ≤ rowOf m .c .len → length s ≤ rowOf m .s .len → length k ≤ 4 + kMost (rowOf m)
     → length (hashInput (fieldsOf vc vs ic is ks c s k)) ≤ roomLeast
 sum-most m vc vs ic is ks c s k a hk hc hs hy =
     let r = method-row m (a .method-ok) in
     let l = hash-length vc vs ic is ks c s k in
     let t = r .all-most in
-    let v1 = within-most 1 253 (length vc) (a .vc-ok) in
-    let v2 = within-most 1 253 (length vs) (a .vs-ok) in
-    let i1 = within-most 1 4096 (length ic) (a .ic-ok) in
-    let i2 = within-most 1 4096 (length is) (a .is-ok) in
+    let v1 = within-most 1 versionMost (length vc) (a .vc-ok) in
+    let v2 = within-most 1 versionMost (length vs) (a .vs-ok) in
+    let i1 = within-most 1 kexinitMost (length ic) (a .ic-ok) in
+    let i2 = within-most 1 kexinitMost (length is) (a .is-ok) in
     let f1 = fieldLength-most (length vc) in
     let f2 = fieldLength-most (length vs) in
     let f3 = fieldLength-most (length ic) in
@@ -180,7 +179,7 @@ sum-most m vc vs ic is ks c s k a hk hc hs hy =
     let f7 = fieldLength-most (length s) in
     omega arith
 
-total : {b : Book} → Sound b → length (hashInput (b .fields)) ≤ roomLeast
+total : {b : Book} → Reachable b → length (hashInput (b .fields)) ≤ roomLeast
 total (client0 a) = sum-most _ _ _ _ _ _ _ _ _ a zero-le zero-le zero-le zero-le
 total (client1 a c) = sum-most _ _ _ _ _ _ _ _ _ a zero-le (sized-c c) zero-le zero-le
 total (client2 a c k s) = sum-most _ _ _ _ _ _ _ _ _ a (blob-most k) (sized-c c) (sized-s s) zero-le
@@ -191,19 +190,19 @@ total (server1 a c) = sum-most _ _ _ _ _ _ _ _ _ a zero-le (sized-c c) zero-le z
 total (server2 a c k s y) = sum-most _ _ _ _ _ _ _ _ _ a (blob-most k) (sized-c c) (sized-s s) (y .most)
 total (server3 a c k s y) = sum-most _ _ _ _ _ _ _ _ _ a (blob-most k) (sized-c c) (sized-s s) (y .most)
 
-complete-told : {b : Book} → Sound b → isComplete (told b .stage) ≡ hasAll b
+complete-of-book : {b : Book} → Reachable b → isComplete (exchangeOf b .stage) ≡ hasAll b
 unfolding hasAll
-complete-told (client0 a) = refl
-complete-told (client1 a c) = refl
-complete-told (client2 a c k s) = refl
-complete-told (client3 a c k s y) = refl
-complete-told (client4 a c k s y) = refl
-complete-told (server0 a) = refl
-complete-told (server1 a c) = refl
-complete-told (server2 a c k s y) = refl
-complete-told (server3 a c k s y) = refl
+complete-of-book (client0 a) = refl
+complete-of-book (client1 a c) = refl
+complete-of-book (client2 a c k s) = refl
+complete-of-book (client3 a c k s y) = refl
+complete-of-book (client4 a c k s y) = refl
+complete-of-book (server0 a) = refl
+complete-of-book (server1 a c) = refl
+complete-of-book (server2 a c k s y) = refl
+complete-of-book (server3 a c k s y) = refl
 
-sound-live : {b : Book} → Sound b → b .faulted ≡ false
+sound-live : {b : Book} → Reachable b → b .faulted ≡ false
 sound-live (client0 a) = refl
 sound-live (client1 a c) = refl
 sound-live (client2 a c k s) = refl
@@ -216,45 +215,49 @@ sound-live (server3 a c k s y) = refl
 
 -- ---- how exchange and room stand to the book
 
-data Sim (room : List ℕ) (b : Book) (e : Exchange) (room′ : List ℕ) : Type 0 where
-  live : Sound b → e ≡ told b → room′ ≡ onto room (hashInput (b .fields)) → Sim room b e room′
-  dead : (n : ℕ) → b .faulted ≡ true → b .fields ≡ noFields → e .stage ≡ Failed n → room′ ≡ zeros (length room) → Sim room b e room′
+pub data Sim (room : List ℕ) (b : Book) (e : Exchange) (room′ : List ℕ) : Type 0 where
+  live : Reachable b → e ≡ exchangeOf b → room′ ≡ onto room (hashInput (b .fields)) → Sim room b e room′
+  dead : (n : ℕ) → b .faulted ≡ true → b .fields ≡ noFields → e .stage ≡ Failed n → e .k ≡ kRecord [] → room′ ≡ zeros (length room) → Sim room b e room′
 
-kind-zero : (n : ℕ) → kind n ≡ accepted → n ≡ 0
-unfolding kind
-kind-zero zero h = refl
-kind-zero (suc n) h = absurd (go (leb (suc n) 5) (rw (eqb·suc-zero n) at h))
-  where
-    go : (t : Bool) → cond t refused fault ≡ accepted → ⊥
-    go true e = let z : _≡_ {A = ℕ} 0 1 = cc in omega arith
-    go false e = let z : _≡_ {A = ℕ} 0 1 = cc in omega arith
-
-number-live : (room : List ℕ) (b : Book) (q : Call) → roomLeast ≤ length room → Sound b →
-    number (told b) (onto room (hashInput (b .fields))) q ≡ firstCause (length room) b q
-unfolding number numbered firstCause causeIf
+pub number-live : (room : List ℕ) (b : Book) (q : Call) → roomLeast ≤ length room → Reachable b →
+    number (exchangeOf b) (onto room (hashInput (b .fields))) q ≡ firstCause (length room) b q
+unfolding number stepNumber firstCause causeIf
 number-live room b q h s =
     let f = sound-live s in
     let t : length (hashInput (b .fields)) ≤ length room = omega (arith, total s) in
-    rw (due-told s q, length-onto room (hashInput (b .fields)) t, f) refl
+    rw (due-of-book s q, length-onto room (hashInput (b .fields)) t, f) refl
+
+no-k : zeros kSize ≡ kRecord []
+unfolding kRecord onto
+no-k = refl
 
 ended-stage : (n role m : ℕ) → ended n role m .stage ≡ Failed n
 unfolding ended
 ended-stage n role m = refl
 
--- a call on a live exchange goes by the kind of its number
-settle : (room : List ℕ) (b : Book) (q : Call) (n : ℕ) (k : Kind) → roomLeast ≤ length room → Sound b → n ≡ firstCause (length room) b q → kind n ≡ k →
-    Sim room (byKind k (moved b q) b (dropped b)) (byKind k (taken (told b) q) (told b) (ended n (b .role) (b .method)))
-    (byKind k (filled (told b) (onto room (hashInput (b .fields))) q) (onto room (hashInput (b .fields))) (zeros (length (onto room (hashInput (b .fields))))))
+ended-k : (n role m : ℕ) → ended n role m .k ≡ kRecord []
+unfolding ended
+ended-k n role m = no-k
+
+-- a call without a cause is next, and nothing is wrong with what it was fed
+pub no-cause : (l : ℕ) (b : Book) (q : Call) → firstCause l b q ≡ 0 → (eqb (getD (stepsOf (b .role)) (b .done) 0) (stepNo q) ≡ true) × (fedCause (b .role) (b .method) q ≡ 0)
 unfolding firstCause
-settle room b q n accepted h s e k =
-    let z : causeIf (b .faulted) 1 (causeUnless (eqb (getD (stepsOf (b .role)) (b .done) 0) (stepNo q)) 1 (causeIf (ltb (length room) roomLeast) 3 (fedCause (b .role) (b .method) q))) ≡ 0 = sym e ∙ kind-zero n k in
+no-cause l b q z =
     let u = unless-none _ 1 _ (omega arith) (if-none _ 1 _ (omega arith) z .1) in
-    let f = accepts room s q (u .0) (if-none _ 3 _ (omega arith) (u .1) .1) in
+    (u .0, if-none _ 3 _ (omega arith) (u .1) .1)
+
+-- a call on a live exchange goes by the kind of its number
+settle : (room : List ℕ) (b : Book) (q : Call) (n : ℕ) (k : Kind) → roomLeast ≤ length room → Reachable b → n ≡ firstCause (length room) b q → kind n ≡ k →
+    Sim room (byKind k (moved b q) b (dropped b)) (byKind k (taken (exchangeOf b) q) (exchangeOf b) (ended n (b .role) (b .method)))
+    (byKind k (filled (exchangeOf b) (onto room (hashInput (b .fields))) q) (onto room (hashInput (b .fields))) (zeros (length (onto room (hashInput (b .fields))))))
+settle room b q n accepted h s e k =
+    let u = no-cause (length room) b q (sym e ∙ kind-is-accepted n k) in
+    let f = accepts room s q (u .0) (u .1) in
     live (f .sound) (f .exchange) (f .room-is)
 settle room b q n refused h s e k = live s refl refl
 settle room b q n fault h s e k =
     let t : length (hashInput (b .fields)) ≤ length room = omega (arith, total s) in
-    dead n refl refl (ended-stage n (b .role) (b .method)) (ap zeros (length-onto room (hashInput (b .fields)) t))
+    dead n refl refl (ended-stage n (b .role) (b .method)) (ended-k n (b .role) (b .method)) (ap zeros (length-onto room (hashInput (b .fields)) t))
 
 -- no step is due on an exchange that failed
 dead-due : (e : Exchange) (n : ℕ) (q : Call) → e .stage ≡ Failed n → due (stepNo q) e ≡ false
@@ -272,8 +275,8 @@ dead-due e n q y = first (stepNo q) (ap (nextStep (e .role)) y ∙ next-failed (
     first : (m : ℕ) → nextStep (e .role) (e .stage) ≡ 0 → eqb 0 m ≡ false → due m e ≡ false
     first m a b = rw (a, b)
 
-dead-number : (e : Exchange) (room : List ℕ) (n : ℕ) (q : Call) → e .stage ≡ Failed n → number e room q ≡ 1
-unfolding number numbered causeUnless
+pub dead-number : (e : Exchange) (room : List ℕ) (n : ℕ) (q : Call) → e .stage ≡ Failed n → number e room q ≡ 1
+unfolding number stepNumber causeUnless
 dead-number e room n q y = rw (dead-due e n q y)
 
 dead-cause : (l : ℕ) (b : Book) (q : Call) → b .faulted ≡ true → firstCause l b q ≡ 1
@@ -283,10 +286,10 @@ dead-cause l b q x = rw x
 -- one call keeps the relation, and its number is the book's
 step : (room : List ℕ) (b : Book) (e : Exchange) (room′ : List ℕ) (q : Call) → roomLeast ≤ length room → Sim room b e room′ →
     (number e room′ q ≡ firstCause (length room) b q) × Sim room (noted (length room) b q) (exchangeAfter e room′ q) (roomAfter e room′ q)
-unfolding exchangeAfter roomAfter kind
-step room b e room′ q h (live s x y) = rw (x, y) (number-live room b q h s, rw (noted-kind (length room) b q, number-live room b q h s) (settle room b q _ _ h s refl refl))
-step room b e room′ q h (dead n x f y z) =
-    (dead-number e room′ n q y ∙ sym (dead-cause (length room) b q x), rw (noted-kind (length room) b q, dead-number e room′ n q y, dead-cause (length room) b q x) (dead n x f y z))
+unfolding exchangeAfter roomAfter noted
+step room b e room′ q h (live s x y) = rw (x, y) (number-live room b q h s, rw (number-live room b q h s) (settle room b q _ _ h s refl refl))
+step room b e room′ q h (dead n x f y w z) =
+    (dead-number e room′ n q y ∙ sym (dead-cause (length room) b q x), rw (dead-number e room′ n q y, dead-cause (length room) b q x, kind-refused 1 (λ u. omega arith) refl) (dead n x f y w z))
 
 -- a list of calls
 run : (room : List ℕ) (b : Book) (e : Exchange) (room′ : List ℕ) (qs : List Call) → roomLeast ≤ length room → Sim room b e room′ →
@@ -314,22 +317,44 @@ never-3 : (l : ℕ) (b : Book) (qs : List Call) → roomLeast ≤ l → Never 3 
 never-3 l b [] h = tt
 never-3 l b (q ∷ qs) h = (not3 l b q h, never-3 l _ qs h)
 
+-- ---- after a fault
+
+kept-book : (l : ℕ) (b : Book) (q : Call) → b .faulted ≡ true → noted l b q ≡ b
+unfolding noted
+kept-book l b q x = rw (dead-cause l b q x, kind-refused 1 (λ u. omega arith) refl)
+
+ones : (l : ℕ) (b : Book) (qs : List Call) → b .faulted ≡ true → AllOnes (causes l b qs)
+ones l b [] x = tt
+ones l b (q ∷ qs) x = (dead-cause l b q x, ones l (noted l b q) qs (ap (λ (c : Book). c .faulted) (kept-book l b q x) ∙ x))
+
+faulted : (l : ℕ) (b : Book) (q : Call) → isFault (firstCause l b q) ≡ true → noted l b q .faulted ≡ true
+unfolding noted
+faulted l b q h = rw (kind-fault (firstCause l b q) h)
+
+silent : (l : ℕ) (b : Book) (qs : List Call) → SilentAfterFault (causes l b qs)
+silent l b [] = tt
+silent l b (q ∷ qs) = (λ h. ones l (noted l b q) qs (faulted l b q h), silent l (noted l b q) qs)
+
 -- ---- what the relation says at the end
 
 complete-sim : (room : List ℕ) (b : Book) (e : Exchange) (room′ : List ℕ) → Sim room b e room′ → isComplete (e .stage) ≡ hasAll b
 unfolding hasAll
-complete-sim room b e room′ (live s x y) = rw x (complete-told s)
-complete-sim room b e room′ (dead n x f y z) = rw (x, y)
+complete-sim room b e room′ (live s x y) = rw x (complete-of-book s)
+complete-sim room b e room′ (dead n x f y w z) = rw (x, y)
 
 room-sim : (room : List ℕ) (b : Book) (e : Exchange) (room′ : List ℕ) → Sim room b e room′ → room′ ≡ roomTold b room
 unfolding roomTold
 room-sim room b e room′ (live s x y) = rw (sound-live s) y
-room-sim room b e room′ (dead n x f y z) = rw x z
+room-sim room b e room′ (dead n x f y w z) = rw x z
 
 most-sim : (room : List ℕ) (b : Book) (e : Exchange) (room′ : List ℕ) → Sim room b e room′ → length (hashInput (b .fields)) ≤ roomLeast
 unfolding hashInput field
 most-sim room b e room′ (live s x y) = total s
-most-sim room b e room′ (dead n x f y z) = rw f zero-le
+most-sim room b e room′ (dead n x f y w z) = rw f zero-le
+
+k-sim : (room : List ℕ) (b : Book) (e : Exchange) (room′ : List ℕ) → Sim room b e room′ → e .k ≡ kRecord (b .fields .k)
+k-sim room b e room′ (live s x y) = ap (λ (z : Exchange). z .k) x
+k-sim room b e room′ (dead n x f y w z) = rw f w
 
 -- ---- the start
 
@@ -353,10 +378,6 @@ freshly role m vc vs ic is = record { stage = Started; role = role; method = m; 
 hash-start : (vc vs ic is : List ℕ) → field vc ++ field vs ++ field ic ++ field is ≡ hashInput (fieldsOf vc vs ic is [] [] [] [])
 unfolding hashInput field
 hash-start vc vs ic is = simp append-nil
-
-no-k : zeros kSize ≡ kRecord []
-unfolding kRecord onto
-no-k = refl
 
 start-sim : (role m : ℕ) (vc vs ic is room : List ℕ) → startCause role m vc vs ic is (length room) ≡ 0 →
     (roomLeast ≤ length room) × Sim room (opened role m vc vs ic is) (freshly role m vc vs ic is) (onto room (field vc ++ field vs ++ field ic ++ field is))
@@ -382,22 +403,33 @@ room-started role m vc vs ic is room z = rw z
 
 -- ---- demand 3 over the definitions
 
+-- exchange and room follow the book after an accepted start and any calls
+pub followed : (role m : ℕ) (vc vs ic is room : List ℕ) → startCause role m vc vs ic is (length room) ≡ 0 → (calls : List Call)
+    → let e = started role m vc vs ic is (length room) .exchange in
+    let r = startedRoom role m vc vs ic is room in
+    let b = opened role m vc vs ic is in
+    (roomLeast ≤ length room) × (numbersOf e r calls ≡ causes (length room) b calls) × Sim room (lastBook (length room) b calls) (lastExchange e r calls) (lastRoom e r calls)
+followed role m vc vs ic is room z calls =
+    let s = start-sim role m vc vs ic is room z in
+    let t = run room (opened role m vc vs ic is) (freshly role m vc vs ic is) (onto room (field vc ++ field vs ++ field ic ++ field is)) calls (s .0) (s .1) in
+    rw (started-is role m vc vs ic is (length room) z, room-started role m vc vs ic is room z) (s .0, t .0, t .1)
+
 pub held : (role m : ℕ) (vc vs ic is room : List ℕ) → startCause role m vc vs ic is (length room) ≡ 0 → (calls : List Call)
-    → Held role m vc vs ic is room calls
+    → Held (opened role m vc vs ic is) room calls
     (numbersOf (started role m vc vs ic is (length room) .exchange) (startedRoom role m vc vs ic is room) calls)
     (lastExchange (started role m vc vs ic is (length room) .exchange) (startedRoom role m vc vs ic is room) calls)
     (lastRoom (started role m vc vs ic is (length room) .exchange) (startedRoom role m vc vs ic is room) calls)
 held role m vc vs ic is room z calls =
-    let s = start-sim role m vc vs ic is room z in
-    let t = run room (opened role m vc vs ic is) (freshly role m vc vs ic is) (onto room (field vc ++ field vs ++ field ic ++ field is)) calls (s .0) (s .1) in
-    rw (started-is role m vc vs ic is (length room) z, room-started role m vc vs ic is room z)
-    (record {
-      answers = t .0;
-      room-enough = rw (t .0) (never-3 (length room) (opened role m vc vs ic is) calls (s .0));
-      complete = complete-sim _ _ _ _ (t .1);
-      room-is = room-sim _ _ _ _ (t .1);
-      fields-most = most-sim _ _ _ _ (t .1);
-    })
+    let t = followed role m vc vs ic is room z calls in
+    record {
+      answers = t .1;
+      room-enough = rw (t .1) (never-3 (length room) (opened role m vc vs ic is) calls (t .0));
+      after-fault = rw (t .1) (silent (length room) (opened role m vc vs ic is) calls);
+      complete = complete-sim _ _ _ _ (t .2);
+      room-is = room-sim _ _ _ _ (t .2);
+      fields-most = most-sim _ _ _ _ (t .2);
+      k-is = k-sim _ _ _ _ (t .2);
+    }
 
 -- ---- for the crate demand
 
@@ -415,9 +447,9 @@ start-zero role m vc vs ic is room e = by-test (eqb (startCause role m vc vs ic 
     by-test false p q = q
 
 -- the signature step has no peer to blame, so it never touches the room
-pub sign-room : (e : Exchange) (room g out kOut : List ℕ) → roomAfter e room (sign g out kOut) ≡ room
-unfolding roomAfter filled number numbered fedCause signCause causeIf causeUnless kind
-sign-room e room g out kOut = by-test (due 5 e) (ltb (length room) roomLeast) (blobOk (length g)) (ltb (length out) replyLeast || ltb (length kOut) kLeast)
+pub sign-room : (e : Exchange) (room g : List ℕ) (out kOut : ℕ) → roomAfter e room (sign g out kOut) ≡ room
+unfolding roomAfter filled number stepNumber fedCause signCause causeIf causeUnless kind
+sign-room e room g out kOut = by-test (due 5 e) (ltb (length room) roomLeast) (blobOk (length g)) (ltb out replyLeast || ltb kOut kSize)
   where
     by-test : (t u v w : Bool) → byKind (kind (causeUnless t 1 (causeIf u 3 (causeUnless v 4 (causeIf w 5 0))))) room room (zeros (length room)) ≡ room
     by-test true true v w = refl

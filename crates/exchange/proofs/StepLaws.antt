@@ -1,58 +1,38 @@
 -- What a step owes at its returns and knows where it is accepted. Assumes nothing.
-use Prim.Native.Nat.{ℕ, zero, suc, _+_, _-_, _≤_, _<_}
+use Prim.Native.Nat.{ℕ, _+_, _-_, _≤_}
 use mathlib.Core.Path.{_≡_, refl, sym, ap, _∙_}
-use mathlib.Core.Logic.{_⊎_, inl, inr, ⊎-elim}
-use mathlib.Core.List.{List, [], _∷_, _++_}
-use mathlib.Core.Bool.{Bool, true, false, cond, _&&_, _||_, false≢true}
+use mathlib.Core.List.{List}
+use mathlib.Core.Bool.{Bool, true, false, cond, _&&_}
 use native.Mathlib.Omega.{arith}
-use lib.ListN.{length, take, drop}
-use lib.Dec.{eqb, leb, ltb}
-use borrow.Author.Tests.{eqb-true, ltb-false, ne-eqb}
+use lib.ListN.{length}
+use lib.Dec.{eqb, ltb}
+use borrow.Author.Tests.{eqb-true, ltb-false}
+use Rattle.limits.specs.Limits.{versionMost, kexinitMost, blobMost, roomLeast}
+use Rattle.limits.proofs.BoolLaws.{and-true}
+use Rattle.limits.proofs.RangeLaws.{within-most}
 use Rattle.buffers.specs.Bytes.{zeros, onto}
 use Rattle.wire.proofs.CauseLaws.{if-none, unless-none}
-use Rattle.wire.proofs.StringLaws.{and-true}
-use Rattle.methods.specs.Rows.{rowOf, kMost}
+use Rattle.methods.specs.Rows.{kMost}
 use Rattle.methods.specs.Form.{lengthFits}
 use Rattle.methods.specs.declared.Method.{Method}
-use Rattle.methods.proofs.MethodLaws.{Sound}
+use Rattle.methods.specs.Sound.{Sound}
 use Rattle.methods.proofs.FormLaws.{length-most}
-use Rattle.messages.specs.Messages.{within}
-use Rattle.messages.proofs.MessageLaws.{within-least, within-most}
-use Rattle.transcript.specs.Fields.{field, fieldLength}
-use Rattle.transcript.proofs.RoomLaws.{length-field, fieldLength-most}
-use Rattle.exchange.specs.Causes.{roomLeast, blobOk, methodOk}
-use Rattle.exchange.specs.Record.{ended, clientNext, serverNext, nextStep, hasC, hasS, hasK, cFits, sFits, due}
-use Rattle.exchange.specs.Steps.{Call, stepNo, fedCause, numbered, number, Kind, accepted, refused, fault, kind, byKind, headEnd, fieldsEnd, filled, taken, countOf, secondOf, exchangeAfter, roomAfter, answered, outputAfter, refusedStep, refusedRoom, Small}
+use Rattle.transcript.specs.Fields.{fieldLength, fieldSize}
+use Rattle.transcript.proofs.RoomLaws.{fieldLength-most}
+use Rattle.transcript.proofs.FieldLaws.{fieldSize-fits, sizeSum-fits}
+use Rattle.exchange.specs.Causes.{blobOk, initCause, replyCause}
+use Rattle.exchange.specs.Numbers.{kind, byKind}
+use Rattle.exchange.specs.Record.{ended, clientNext, serverNext, nextStep, hasC, hasS, cFits, sFits, due}
+use Rattle.exchange.specs.Steps.{Call, init, reply, stepNo, fedCause, stepNumber, number, headEnd, fieldsEnd, headSize, fieldsSize, filled, taken, countOf, secondOf, exchangeAfter, roomAfter, answered, outputAfter, refusedStep, refusedRoom}
 use Rattle.exchange.specs.declared.Stage.{Stage}
 use Rattle.exchange.specs.declared.Stage.the-variants.{Started, CSent, InitRead, ReplyRead, SecretDone, Complete, Failed}
 use Rattle.exchange.specs.declared.Lengths.{Lengths}
 use Rattle.exchange.specs.declared.Exchange.{Exchange}
 use Rattle.exchange.specs.declared.Step.{Step}
-use Rattle.exchange.proofs.CauseFacts.{method-row}
 use Rattle.exchange.proofs.DueLaws.{Fitting, Due, due-known}
+use Rattle.exchange.proofs.KindLaws.{kind-other, kind-same}
 
--- ---- by the kind of a number
-
--- where a number is not 0, what an accepted call would have made does not matter
-pub kind-other : {A : Type 0} (n : ℕ) (a b r f : A) → (n ≡ 0 → ⊥) → byKind (kind n) a r f ≡ byKind (kind n) b r f
-unfolding kind
-kind-other n a b r f h = rw (ne-eqb n 0 h) (by-test (leb n 5))
-  where
-    by-test : (t : Bool) → byKind (cond t refused fault) a r f ≡ byKind (cond t refused fault) b r f
-    by-test true = refl
-    by-test false = refl
-
-pub kind-same : {A : Type 0} (n : ℕ) (a r : A) → (n ≡ 0 → ⊥) → byKind (kind n) a r r ≡ r
-unfolding kind
-kind-same n a r h = rw (ne-eqb n 0 h) (by-test (leb n 5))
-  where
-    by-test : (t : Bool) → byKind (cond t refused fault) a r r ≡ r
-    by-test true = refl
-    by-test false = refl
-
-pub kind-zero : kind 0 ≡ accepted
-unfolding kind
-kind-zero = refl
+-- ---- by its number
 
 module _ (e : Exchange) (room : List ℕ) (q : Call) where
   -- a refused step's answer and room, by its number alone
@@ -78,7 +58,7 @@ module _ (e : Exchange) (room : List ℕ) (q : Call) where
 
   -- what it knows: its step is due, the room is long enough, and nothing is wrong with what it was fed
   pub step-known : number e room q ≡ 0 → Due (stepNo q) e × (roomLeast ≤ length room) × (fedCause (e .role) (e .method) q ≡ 0)
-  unfolding number numbered
+  unfolding number stepNumber
   step-known z =
       let a = unless-none (due (stepNo q) e) 1 _ (omega arith) z in
       let b = if-none (ltb (length room) roomLeast) 3 _ (omega arith) (a .1) in
@@ -91,6 +71,17 @@ output-refused n out b h = sym (kind-same n (onto out b) out h)
 pub output-accepted : (n : ℕ) (out b : List ℕ) → n ≡ 0 → onto out b ≡ outputAfter n out b
 unfolding outputAfter kind
 output-accepted n out b h = rw h
+
+-- ---- the number that the code judges is the call's
+
+module _ (e : Exchange) (room p : List ℕ) (n fed : ℕ) where
+  pub init-number : n ≡ stepNumber 2 e (length room) fed → fed ≡ initCause (e .method) p → n ≡ number e room (init p)
+  unfolding number fedCause
+  init-number a b = a ∙ ap (stepNumber 2 e (length room)) b
+
+  pub reply-number : n ≡ stepNumber 3 e (length room) fed → fed ≡ replyCause (e .method) p → n ≡ number e room (reply p)
+  unfolding number fedCause
+  reply-number a b = a ∙ ap (stepNumber 3 e (length room)) b
 
 -- ---- where a step is next
 
@@ -139,11 +130,11 @@ next-2 role stage e = by-test (eqb role 1) refl (eqb role 2) refl stage e
 -- ---- bounds of the recorded lengths
 
 pub record Bounded (r : Method) (l : Lengths) : Type 0 where
-  pub vc : l .vc ≤ 253
-  pub vs : l .vs ≤ 253
-  pub ic : l .ic ≤ 4096
-  pub is : l .is ≤ 4096
-  pub ks : l .ks ≤ 2048
+  pub vc : l .vc ≤ versionMost
+  pub vs : l .vs ≤ versionMost
+  pub ic : l .ic ≤ kexinitMost
+  pub is : l .is ≤ kexinitMost
+  pub ks : l .ks ≤ blobMost
   pub c : l .c ≤ r .c .len
   pub s : l .s ≤ r .s .len
 
@@ -156,12 +147,12 @@ c-bound r stage l e = by-test (hasC stage) e
     by-test true h = length-most (r .c) (l .c) h
     by-test false h = let z = eqb-true (l .c) 0 h in omega arith
 
-s-bound : (r : Method) (stage : Stage) (l : Lengths) → sFits r stage l ≡ true → (l .ks ≤ 2048) × (l .s ≤ r .s .len)
+s-bound : (r : Method) (stage : Stage) (l : Lengths) → sFits r stage l ≡ true → (l .ks ≤ blobMost) × (l .s ≤ r .s .len)
 unfolding sFits
 s-bound r stage l e = by-test (hasS stage) e
   where
-    by-test : (t : Bool) → cond t (blobOk (l .ks) && lengthFits (r .s) (l .s)) (eqb (l .ks) 0 && eqb (l .s) 0) ≡ true → (l .ks ≤ 2048) × (l .s ≤ r .s .len)
-    by-test true h = let a = and-true (blobOk (l .ks)) (lengthFits (r .s) (l .s)) h in (within-most 1 2048 (l .ks) (a .0), length-most (r .s) (l .s) (a .1))
+    by-test : (t : Bool) → cond t (blobOk (l .ks) && lengthFits (r .s) (l .s)) (eqb (l .ks) 0 && eqb (l .s) 0) ≡ true → (l .ks ≤ blobMost) × (l .s ≤ r .s .len)
+    by-test true h = let a = and-true (blobOk (l .ks)) (lengthFits (r .s) (l .s)) h in (within-most 1 blobMost (l .ks) (a .0), length-most (r .s) (l .s) (a .1))
     by-test false h =
         let a = and-true (eqb (l .ks) 0) (eqb (l .s) 0) h in
         let y = eqb-true (l .ks) 0 (a .0) in
@@ -172,14 +163,24 @@ pub bounded : (r : Method) (stage : Stage) (l : Lengths) → Fitting r stage l �
 bounded r stage l f =
     let s = s-bound r stage l (f .s) in
     record {
-      vc = within-most 1 253 (l .vc) (f .vc);
-      vs = within-most 1 253 (l .vs) (f .vs);
-      ic = within-most 1 4096 (l .ic) (f .ic);
-      is = within-most 1 4096 (l .is) (f .is);
+      vc = within-most 1 versionMost (l .vc) (f .vc);
+      vs = within-most 1 versionMost (l .vs) (f .vs);
+      ic = within-most 1 kexinitMost (l .ic) (f .ic);
+      is = within-most 1 kexinitMost (l .is) (f .is);
       ks = s .0;
       c = c-bound r stage l (f .c);
       s = s .1;
     }
+
+-- bounds under which the code's sums are the plain ones
+pub record Small (l : Lengths) : Type 0 where
+  pub vc : l .vc ≤ kexinitMost
+  pub vs : l .vs ≤ kexinitMost
+  pub ic : l .ic ≤ kexinitMost
+  pub is : l .is ≤ kexinitMost
+  pub ks : l .ks ≤ kexinitMost
+  pub c : l .c ≤ kexinitMost
+  pub s : l .s ≤ kexinitMost
 
 -- no sum of them wraps
 pub small : (r : Method) (l : Lengths) → Sound r → Bounded r l → Small l
@@ -213,3 +214,34 @@ unfolding cFits sFits
 started-lengths r l f =
     let a = and-true (eqb (l .ks) 0) (eqb (l .s) 0) (f .s) in
     (eqb-true (l .c) 0 (f .c), eqb-true (l .ks) 0 (a .0), eqb-true (l .s) 0 (a .1))
+
+-- ---- sums as the code counts them
+
+pub size-fits : (n : ℕ) → n ≤ kexinitMost → fieldSize n ≡ fieldLength n
+size-fits n h = fieldSize-fits n (omega arith)
+
+module _ (l : Lengths) (b : Small l) where
+  pub head-bound : headEnd l ≤ 16400
+  head-bound =
+      omega (arith, b .vc, b .vs, b .ic, b .is, fieldLength-most (l .vc), fieldLength-most (l .vs), fieldLength-most (l .ic), fieldLength-most (l .is))
+
+  pub fields-bound : fieldsEnd l ≤ 28700
+  fields-bound = omega (arith, head-bound, b .ks, b .c, b .s, fieldLength-most (l .ks), fieldLength-most (l .c), fieldLength-most (l .s))
+
+  pub head-fits : headSize l ≡ headEnd l
+  unfolding headSize
+  head-fits =
+      let h = head-bound in
+      rw (size-fits (l .vc) (b .vc), size-fits (l .vs) (b .vs), size-fits (l .ic) (b .ic), size-fits (l .is) (b .is))
+      (rw (sizeSum-fits (fieldLength (l .vc)) (fieldLength (l .vs)) (omega arith))
+      (rw (sizeSum-fits (fieldLength (l .vc) + fieldLength (l .vs)) (fieldLength (l .ic)) (omega arith))
+      (sizeSum-fits (fieldLength (l .vc) + fieldLength (l .vs) + fieldLength (l .ic)) (fieldLength (l .is)) (omega arith))))
+
+  pub fields-fits : fieldsSize l ≡ fieldsEnd l
+  unfolding fieldsSize
+  fields-fits =
+      let h = fields-bound in
+      rw (head-fits, size-fits (l .ks) (b .ks), size-fits (l .c) (b .c), size-fits (l .s) (b .s))
+      (rw (sizeSum-fits (headEnd l) (fieldLength (l .ks)) (omega arith))
+      (rw (sizeSum-fits (headEnd l + fieldLength (l .ks)) (fieldLength (l .c)) (omega arith))
+      (sizeSum-fits (headEnd l + fieldLength (l .ks) + fieldLength (l .c)) (fieldLength (l .s)) (omega arith))))

@@ -1,16 +1,15 @@
--- The numbers that a call can be given, and that the book's faults are the steps'. Assumes nothing.
-use Prim.Native.Nat.{ℕ, _<_}
-use mathlib.Core.Path.{_≡_, refl, sym, _∙_}
+-- The numbers that a call can be given. Assumes nothing.
+use Prim.Native.Nat.{ℕ}
+use mathlib.Core.Path.{_≡_}
 use mathlib.Core.List.{List}
-use mathlib.Core.Bool.{Bool, true, false, cond, _&&_, _||_, false≢true}
-use native.Mathlib.Omega.{arith}
-use lib.Dec.{leb, eqb}
-use borrow.Author.Tests.{leb-true, lt-leb}
+use mathlib.Core.Bool.{Bool, true, false, cond}
+use lib.Dec.{eqb}
 use Rattle.wire.specs.Causes.{causeIf, causeUnless, orElse}
-use Rattle.messages.specs.Messages.{messageCause}
+use Rattle.messages.specs.Payload.{messageCause}
+use Rattle.messages.specs.Messages.{initLayout, replyLayout}
+use Rattle.messages.specs.declared.Layout.{Layout}
 use Rattle.exchange.specs.Causes.{ownCCause, initCause, replyCause, secretCause, signCause, verdictCause}
-use Rattle.exchange.specs.Steps.{Call, ownC, init, reply, secret, sign, verdict, fedCause, accepted, refused, fault, kind, byKind}
-use Rattle.exchange.specs.Book.{Book, firstCause, moved, dropped, isFault, noted}
+use Rattle.exchange.specs.Steps.{Call, ownC, init, reply, secret, sign, verdict, fedCause}
 
 -- ---- what holds of every number in a chain of causes holds of the first
 
@@ -47,50 +46,17 @@ pub record OfEach (P : ℕ → Bool) : Type 0 where
   pub of17 : P 17 ≡ true
   pub of18 : P 18 ≡ true
 
-message-keeps : (P : ℕ → Bool) → OfEach P → (byte k : ℕ) (p : List ℕ) → P (messageCause byte k p) ≡ true
+message-keeps : (P : ℕ → Bool) → OfEach P → (l : Layout) (p : List ℕ) → P (messageCause l p) ≡ true
 unfolding messageCause
-message-keeps P o byte k p =
+message-keeps P o l p =
     unless-keeps P _ 10 _ (o .of10) (unless-keeps P _ 11 _ (o .of11) (unless-keeps P _ 12 _ (o .of12) (if-keeps P _ 13 0 (o .of13) (o .of0))))
 
 -- holds of what the call is fed
 pub fed-keeps : (P : ℕ → Bool) → OfEach P → (role m : ℕ) (q : Call) → P (fedCause role m q) ≡ true
 unfolding fedCause ownCCause initCause replyCause secretCause signCause verdictCause
 fed-keeps P o role m (ownC c out) = unless-keeps P _ 4 _ (o .of4) (if-keeps P _ 5 0 (o .of5) (o .of0))
-fed-keeps P o role m (init p) = else-keeps P _ _ (message-keeps P o 30 1 p) (unless-keeps P _ 14 _ (o .of14) (unless-keeps P _ 15 0 (o .of15) (o .of0)))
-fed-keeps P o role m (reply p) = else-keeps P _ _ (message-keeps P o 31 3 p) (unless-keeps P _ 14 _ (o .of14) (unless-keeps P _ 15 0 (o .of15) (o .of0)))
+fed-keeps P o role m (init p) = else-keeps P _ _ (message-keeps P o initLayout p) (unless-keeps P _ 14 _ (o .of14) (unless-keeps P _ 15 0 (o .of15) (o .of0)))
+fed-keeps P o role m (reply p) = else-keeps P _ _ (message-keeps P o replyLayout p) (unless-keeps P _ 14 _ (o .of14) (unless-keeps P _ 15 0 (o .of15) (o .of0)))
 fed-keeps P o role m (secret cl x kem d ks s) = unless-keeps P _ 4 _ (o .of4) (if-keeps P _ 16 _ (o .of16) (if-keeps P _ 17 0 (o .of17) (o .of0)))
 fed-keeps P o role m (sign g out kOut) = unless-keeps P _ 4 _ (o .of4) (if-keeps P _ 5 0 (o .of5) (o .of0))
 fed-keeps P o role m (verdict u v kOut) = if-keeps P _ 5 _ (o .of5) (unless-keeps P _ 18 0 (o .of18) (o .of0))
-
--- ---- the book's faults
-
--- the numbers of the table that a call can be given
-abbrev inTable : ℕ → Bool
-inTable n = leb n 5 || isFault n
-
-cause-table : (room : ℕ) (b : Book) (q : Call) → inTable (firstCause room b q) ≡ true
-unfolding firstCause
-cause-table room b q =
-    let each : OfEach inTable = record { of0 = refl; of4 = refl; of5 = refl; of10 = refl; of11 = refl; of12 = refl; of13 = refl; of14 = refl; of15 = refl; of16 = refl; of17 = refl; of18 = refl } in
-    if-keeps inTable _ 1 _ refl (unless-keeps inTable _ 1 _ refl (if-keeps inTable _ 3 _ refl (fed-keeps inTable each (b .role) (b .method) q)))
-
--- among these the steps' kinds say the same as the book's words
-by-table : {A : Type 0} (n : ℕ) (m r f : A) → inTable n ≡ true → cond (eqb n 0) m (cond (isFault n) f r) ≡ byKind (kind n) m r f
-unfolding kind
-by-table n m r f h = by-zero (eqb n 0)
-  where
-    low : leb n 5 ≡ true → isFault n ≡ false
-    low a = let l = leb-true n 5 a in rw (lt-leb 10 n (omega arith))
-
-    by-five : (t u : Bool) → leb n 5 ≡ t → isFault n ≡ u → cond (isFault n) f r ≡ byKind (cond (leb n 5) refused fault) m r f
-    by-five true u a b = rw (low a, a)
-    by-five false true a b = rw (b, a)
-    by-five false false a b = absurd (false≢true ((λ i. sym a i || sym b i) ∙ h))
-
-    by-zero : (z : Bool) → cond z m (cond (isFault n) f r) ≡ byKind (cond z accepted (cond (leb n 5) refused fault)) m r f
-    by-zero true = refl
-    by-zero false = by-five (leb n 5) (isFault n) refl refl
-
-pub noted-kind : (room : ℕ) (b : Book) (q : Call) → noted room b q ≡ byKind (kind (firstCause room b q)) (moved b q) b (dropped b)
-unfolding noted
-noted-kind room b q = by-table (firstCause room b q) (moved b q) b (dropped b) (cause-table room b q)

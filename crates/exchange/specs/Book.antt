@@ -3,13 +3,15 @@
 use Prim.Native.Nat.{ℕ, _+_}
 use mathlib.Core.List.{List, [], _∷_, _++_}
 use mathlib.Core.Bool.{Bool, true, false, cond, not, _&&_}
-use lib.ListN.{length, getD, drop}
-use lib.Dec.{ltb, leb, eqb}
+use lib.ListN.{length, getD}
+use lib.Dec.{ltb, eqb}
+use Rattle.limits.specs.Limits.{roomLeast, client, server}
 use Rattle.buffers.specs.Bytes.{zeros, onto}
 use Rattle.wire.specs.Causes.{causeIf, causeUnless}
 use Rattle.messages.specs.Messages.{fieldOf}
 use Rattle.transcript.specs.Fields.{field}
-use Rattle.exchange.specs.Causes.{roomLeast, kOf}
+use Rattle.exchange.specs.Causes.{kOf}
+use Rattle.exchange.specs.Numbers.{kind, byKind}
 use Rattle.exchange.specs.Steps.{Call, ownC, init, reply, secret, sign, verdict, stepNo, fedCause}
 use Rattle.exchange.specs.declared.Stage.{Stage}
 use Rattle.exchange.specs.declared.Stage.the-variants.{Started, CSent, InitRead, ReplyRead, SecretDone, Complete, Failed}
@@ -48,7 +50,7 @@ opened role m vc vs ic is = record {
 
 -- a client's steps are own C, REPLY, secret, verdict; a server's are INIT, secret, signature
 abbrev pub stepsOf : ℕ → List ℕ
-stepsOf role = cond (eqb role 1) (1 ∷ 3 ∷ 4 ∷ 6 ∷ []) (2 ∷ 4 ∷ 5 ∷ [])
+stepsOf role = cond (eqb role client) (1 ∷ 3 ∷ 4 ∷ 6 ∷ []) (2 ∷ 4 ∷ 5 ∷ [])
 
 -- a call's first cause: 1 when a fault came or it is not the role's step after those done; then by what it was fed
 unfoldable pub firstCause : ℕ → Book → Call → ℕ
@@ -61,30 +63,24 @@ firstCause room b q =
 abbrev pub brings : Fields → List ℕ → List ℕ → List ℕ → List ℕ → Fields
 brings f ks c s k = record { vc = f .vc; vs = f .vs; ic = f .ic; is = f .is; ks = ks; c = c; s = s; k = k }
 
-unfoldable pub joined : ℕ → ℕ → Fields → Call → Fields
-joined role m f (ownC c out) = brings f (f .ks) c (f .s) (f .k)
-joined role m f (init p) = brings f (f .ks) (fieldOf p 0) (f .s) (f .k)
-joined role m f (reply p) = brings f (fieldOf p 0) (f .c) (fieldOf p 1) (f .k)
-joined role m f (secret cl x kem d ks s) =
-    cond (eqb role 2) (brings f ks (f .c) s (kOf m x d)) (brings f (f .ks) (f .c) (f .s) (kOf m x d))
-joined role m f (sign g out kOut) = f
-joined role m f (verdict a b kOut) = f
+unfoldable pub fieldsAfter : ℕ → ℕ → Fields → Call → Fields
+fieldsAfter role m f (ownC c out) = brings f (f .ks) c (f .s) (f .k)
+fieldsAfter role m f (init p) = brings f (f .ks) (fieldOf p 0) (f .s) (f .k)
+fieldsAfter role m f (reply p) = brings f (fieldOf p 0) (f .c) (fieldOf p 1) (f .k)
+fieldsAfter role m f (secret cl x kem d ks s) =
+    cond (eqb role server) (brings f ks (f .c) s (kOf m x d)) (brings f (f .ks) (f .c) (f .s) (kOf m x d))
+fieldsAfter role m f (sign g out kOut) = f
+fieldsAfter role m f (verdict a b kOut) = f
 
 -- the book after a call: its step is done and its fields join; a refusal leaves it; a peer fault is noted and drops the fields
 abbrev pub moved : Book → Call → Book
-moved b q = record { role = b .role; method = b .method; done = b .done + 1; fields = joined (b .role) (b .method) (b .fields) q; faulted = false }
+moved b q = record { role = b .role; method = b .method; done = b .done + 1; fields = fieldsAfter (b .role) (b .method) (b .fields) q; faulted = false }
 
 abbrev pub dropped : Book → Book
 dropped b = record { role = b .role; method = b .method; done = b .done; fields = noFields; faulted = true }
 
--- a peer's fault, by the table of numbers
-abbrev pub isFault : ℕ → Bool
-isFault n = leb 10 n && leb n 18
-
 unfoldable pub noted : ℕ → Book → Call → Book
-noted room b q =
-    cond (eqb (firstCause room b q) 0) (moved b q)
-    (cond (isFault (firstCause room b q)) (dropped b) b)
+noted room b q = byKind (kind (firstCause room b q)) (moved b q) b (dropped b)
 
 -- the book has every step of its role
 unfoldable pub hasAll : Book → Bool

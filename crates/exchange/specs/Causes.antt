@@ -4,56 +4,45 @@ use Prim.Native.Nat.{ℕ}
 use mathlib.Core.List.{List, [], _∷_}
 use mathlib.Core.Bool.{Bool, true, false, cond, not, _&&_, _||_}
 use lib.ListN.{length, getD}
-use lib.Dec.{ltb, leb, eqb}
+use lib.Dec.{ltb, eqb}
+use Rattle.limits.specs.Limits.{versionMost, kexinitMost, blobMost, kSize, roomLeast, initLeast, replyLeast, methodLast, client, server}
+use Rattle.limits.specs.Range.{within}
 use Rattle.wire.specs.Causes.{causeIf, causeUnless, orElse}
-use Rattle.messages.specs.Messages.{within, messageCause, fieldOf}
-use Rattle.methods.specs.Rows.{rowOf}
+use Rattle.messages.specs.Payload.{messageCause}
+use Rattle.messages.specs.Messages.{initLayout, replyLayout, fieldOf}
+use Rattle.methods.specs.Rows.{hybrid, rowOf}
 use Rattle.methods.specs.Form.{lengthFits, leadFits, formed}
-use Rattle.methods.specs.declared.KForm.{KForm}
-use Rattle.methods.specs.declared.KForm.the-variants.{Mpint, Digest}
+use Rattle.methods.specs.declared.Method.{Method}
 use Rattle.secret.specs.Secret.{kBytes, leadingZeros}
 use Rattle.exchange.specs.declared.Classical.{Classical}
 use Rattle.exchange.specs.declared.Classical.the-variants.{Failed as NoX, Given}
 use Rattle.exchange.specs.declared.Kem.{Kem}
 use Rattle.exchange.specs.declared.Kem.the-variants.{Absent, Failed as NoKem, Done}
 
--- ---- sizes
+-- ---- fields
 
--- the room, document 01's word for the buffer that is lent for the hash input: 32 + 506 + 8,192 + 2,048 + 3,330 + 48 bytes
-abbrev pub roomLeast : ℕ
-roomLeast = 14156
-
--- the outputs for INIT, for REPLY and for K
-abbrev pub initLeast : ℕ
-initLeast = 1670
-
-abbrev pub replyLeast : ℕ
-replyLeast = 5774
-
-abbrev pub kLeast : ℕ
-kLeast = 71
-
--- V: 1 to 253 bytes without 0, 10 or 13
+-- bytes of which none is 0, 10 or 13
 abbrev pub plain : List ℕ → Bool
 plain [] = true
 plain (b ∷ v) = not (eqb b 0) && not (eqb b 10) && not (eqb b 13) && plain v
 
+-- V: 1 to 253 of them
 unfoldable pub versionOk : List ℕ → Bool
-versionOk v = within 1 253 (length v) && plain v
+versionOk v = within 1 versionMost (length v) && plain v
 
--- I: 1 to 4,096 bytes, the first 20
+-- I: the first byte 20
 unfoldable pub kexinitOk : List ℕ → Bool
-kexinitOk i = within 1 4096 (length i) && eqb (getD i 0 0) 20
+kexinitOk i = within 1 kexinitMost (length i) && eqb (getD i 0 0) 20
 
--- K_S and signature: 1 to 2,048 bytes
+-- K_S and signature
 abbrev pub blobOk : ℕ → Bool
-blobOk n = within 1 2048 n
+blobOk n = within 1 blobMost n
 
 unfoldable pub methodOk : ℕ → Bool
-methodOk m = within 1 9 m
+methodOk m = within 1 methodLast m
 
 unfoldable pub roleOk : ℕ → Bool
-roleOk r = within 1 2 r
+roleOk r = within client server r
 
 -- ---- start
 
@@ -72,7 +61,7 @@ ownCCause m c out = causeUnless (formed (rowOf m .c) c) 4 (causeIf (ltb out init
 
 unfoldable pub initCause : ℕ → List ℕ → ℕ
 initCause m p =
-    orElse (messageCause 30 1 p)
+    orElse (messageCause initLayout p)
     (causeUnless (lengthFits (rowOf m .c) (length (fieldOf p 0))) 14
     (causeUnless (leadFits (rowOf m .c) (fieldOf p 0)) 15 0))
 
@@ -80,29 +69,25 @@ initCause m p =
 
 unfoldable pub replyCause : ℕ → List ℕ → ℕ
 replyCause m p =
-    orElse (messageCause 31 3 p)
+    orElse (messageCause replyLayout p)
     (causeUnless (blobOk (length (fieldOf p 0)) && lengthFits (rowOf m .s) (length (fieldOf p 1)) && blobOk (length (fieldOf p 2))) 14
     (causeUnless (leadFits (rowOf m .s) (fieldOf p 1)) 15 0))
 
 -- ---- secret
 
 -- the number that the classical primitive states is the method's, and X has exactly that many bytes; a failed one has no X to look at
-abbrev pub xOk : ℕ → Classical → List ℕ → Bool
-xOk m NoX x = true
-xOk m (Given n) x = eqb n (rowOf m .«x_len») && eqb (length x) (rowOf m .«x_len»)
+abbrev pub xOk : Method → Classical → List ℕ → Bool
+xOk r NoX x = true
+xOk r (Given n) x = eqb n (r .«x_len») && eqb (length x) (r .«x_len»)
 
--- a KEM's outcome is there exactly in the hybrids, whose K is a digest
-abbrev pub hybrid : KForm → Bool
-hybrid Mpint = false
-hybrid Digest = true
-
+-- a KEM's outcome is there exactly in the hybrids
 abbrev pub present : Kem → Bool
 present Absent = false
 present NoKem = true
 present Done = true
 
-abbrev pub kemOk : ℕ → Kem → Bool
-kemOk m kem = cond (hybrid (rowOf m .«k_form»)) (present kem) (not (present kem))
+abbrev pub kemOk : Method → Kem → Bool
+kemOk r kem = cond (hybrid (r .«k_form»)) (present kem) (not (present kem))
 
 -- the digest: the method's length in a hybrid whose primitives both gave something, else empty
 abbrev pub digestFor : Classical → Kem → ℕ → ℕ
@@ -111,20 +96,24 @@ digestFor (Given n) NoKem len = 0
 digestFor (Given n) Absent len = 0
 digestFor NoX kem len = 0
 
-abbrev pub digestOk : ℕ → Classical → Kem → List ℕ → Bool
-digestOk m cl kem d = eqb (length d) (digestFor cl kem (rowOf m .«digest_len»))
+abbrev pub digestOk : Method → Classical → Kem → List ℕ → Bool
+digestOk r cl kem d = eqb (length d) (digestFor cl kem (r .«digest_len»))
 
 -- a server hands in K_S and its own S; a client's are not looked at
-abbrev pub ownOk : ℕ → ℕ → List ℕ → List ℕ → Bool
-ownOk role m ks s = cond (eqb role 2) (blobOk (length ks) && formed (rowOf m .s) s) true
+abbrev pub ownOk : ℕ → Method → List ℕ → List ℕ → Bool
+ownOk role r ks s = cond (eqb role server) (blobOk (length ks) && formed (r .s) s) true
+
+-- all that the secret step is handed beside X
+unfoldable pub restOk : ℕ → Method → Classical → Kem → List ℕ → List ℕ → List ℕ → Bool
+restOk role r cl kem d ks s = kemOk r kem && digestOk r cl kem d && ownOk role r ks s
 
 -- X failed, or is all zero where the check is on
 abbrev pub allZero : List ℕ → Bool
 allZero x = eqb (leadingZeros x) (length x)
 
-abbrev pub xBad : ℕ → Classical → List ℕ → Bool
-xBad m NoX x = true
-xBad m (Given n) x = rowOf m .«zero_check» && allZero x
+abbrev pub xBad : Method → Classical → List ℕ → Bool
+xBad r NoX x = true
+xBad r (Given n) x = r .«zero_check» && allZero x
 
 abbrev pub kemBad : Kem → Bool
 kemBad Absent = false
@@ -133,8 +122,8 @@ kemBad Done = false
 
 unfoldable pub secretCause : ℕ → ℕ → Classical → List ℕ → Kem → List ℕ → List ℕ → List ℕ → ℕ
 secretCause role m cl x kem d ks s =
-    causeUnless (xOk m cl x && kemOk m kem && digestOk m cl kem d && ownOk role m ks s) 4
-    (causeIf (xBad m cl x) 16
+    causeUnless (xOk (rowOf m) cl x && restOk role (rowOf m) cl kem d ks s) 4
+    (causeIf (xBad (rowOf m) cl x) 16
     (causeIf (kemBad kem) 17 0))
 
 -- K, in the method's form
@@ -146,11 +135,11 @@ kOf m x d = kBytes (rowOf m .«k_form») x d
 unfoldable pub signCause : List ℕ → ℕ → ℕ → ℕ
 signCause signature out kOut =
     causeUnless (blobOk (length signature)) 4
-    (causeIf (ltb out replyLeast || ltb kOut kLeast) 5 0)
+    (causeIf (ltb out replyLeast || ltb kOut kSize) 5 0)
 
 -- ---- verdict
 
 unfoldable pub verdictCause : Bool → Bool → ℕ → ℕ
 verdictCause signature hostKey kOut =
-    causeIf (ltb kOut kLeast) 5
+    causeIf (ltb kOut kSize) 5
     (causeUnless (signature && hostKey) 18 0)

@@ -2,10 +2,12 @@
 use Prim.Native.Nat.{ℕ, _≤_}
 use mathlib.Core.Path.{_≡_}
 use mathlib.Core.List.{List, [], _∷_}
+use mathlib.Core.Bool.{true}
 use lib.ListN.{length}
-use Rattle.exchange.specs.Causes.{roomLeast}
-use Rattle.exchange.specs.Steps.{Call, number, exchangeAfter, roomAfter}
-use Rattle.exchange.specs.Book.{Book, opened, causes, lastBook, isComplete, hasAll, roomTold, hashInput}
+use Rattle.limits.specs.Limits.{roomLeast}
+use Rattle.exchange.specs.Numbers.{isFault}
+use Rattle.exchange.specs.Steps.{Call, number, kRecord, exchangeAfter, roomAfter}
+use Rattle.exchange.specs.Book.{Book, causes, lastBook, isComplete, hasAll, roomTold, hashInput}
 use Rattle.exchange.specs.declared.Exchange.{Exchange}
 
 -- a list of calls, each with the exchange and the room as the last left them
@@ -21,21 +23,34 @@ abbrev pub lastRoom : Exchange → List ℕ → List Call → List ℕ
 lastRoom e room [] = room
 lastRoom e room (q ∷ qs) = lastRoom (exchangeAfter e room q) (roomAfter e room q) qs
 
--- none of the numbers is n
+-- none of the numbers is n; all of them are 1
 abbrev pub Never : ℕ → List ℕ → Type 0
 Never n [] = Unit {0}
 Never n (m ∷ ms) = (m ≡ n → ⊥) × Never n ms
 
--- what holds after an accepted start from a room and a list of calls, of the numbers that they answered and of the exchange and the
--- room that they left
-pub record Held (role m : ℕ) (vc vs ic is room : List ℕ) (calls : List Call) (numbers : List ℕ) (e : Exchange) (room′ : List ℕ) : Type 0 where
+abbrev pub AllOnes : List ℕ → Type 0
+AllOnes [] = Unit {0}
+AllOnes (n ∷ ns) = (n ≡ 1) × AllOnes ns
+
+-- after a peer's fault every number is 1
+abbrev pub SilentAfterFault : List ℕ → Type 0
+SilentAfterFault [] = Unit {0}
+SilentAfterFault (n ∷ ns) = (isFault n ≡ true → AllOnes ns) × SilentAfterFault ns
+
+-- what holds after an accepted start from a room, which opened the book b₀, and a list of calls: of the numbers that they answered and of
+-- the exchange and the room that they left
+pub record Held (b₀ : Book) (room : List ℕ) (calls : List Call) (numbers : List ℕ) (e : Exchange) (room′ : List ℕ) : Type 0 where
   -- each call's number is the book's first cause, or 0 with none
-  pub answers : numbers ≡ causes (length room) (opened role m vc vs ic is) calls
+  pub answers : numbers ≡ causes (length room) b₀ calls
   -- never 3
   pub room-enough : Never 3 numbers
+  -- after a fault no further step is ever accepted
+  pub after-fault : SilentAfterFault numbers
   -- the record says complete exactly when the book has every step of its role
-  pub complete : isComplete (e .stage) ≡ hasAll (lastBook (length room) (opened role m vc vs ic is) calls)
+  pub complete : isComplete (e .stage) ≡ hasAll (lastBook (length room) b₀ calls)
   -- the room begins with the book's fields in hash order, the rest as it was lent to the start; or it is all zeros after a fault
-  pub room-is : room′ ≡ roomTold (lastBook (length room) (opened role m vc vs ic is) calls) room
-  -- the fields never pass 14,156 bytes
-  pub fields-most : length (hashInput (lastBook (length room) (opened role m vc vs ic is) calls .fields)) ≤ roomLeast
+  pub room-is : room′ ≡ roomTold (lastBook (length room) b₀ calls) room
+  -- the fields never pass the least room
+  pub fields-most : length (hashInput (lastBook (length room) b₀ calls .fields)) ≤ roomLeast
+  -- the K record is the book's K, zeros after it: all zeros until the secret step, and after a fault
+  pub k-is : e .k ≡ kRecord (lastBook (length room) b₀ calls .fields .k)

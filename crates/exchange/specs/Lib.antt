@@ -1,6 +1,6 @@
+pub mod Numbers
 pub mod Causes
 pub mod Record
 pub mod Steps
 pub mod Book
 pub mod Demand
-pub mod Sample

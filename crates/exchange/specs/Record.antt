@@ -2,27 +2,27 @@
 use Prim.Native.Nat.{ℕ, _+_}
 use mathlib.Core.List.{List}
 use mathlib.Core.Bool.{Bool, true, false, cond, _&&_}
-use lib.ListN.{length}
 use lib.Dec.{leb, eqb}
+use Rattle.limits.specs.Limits.{versionMost, kexinitMost, kSize, client, server}
+use Rattle.limits.specs.Range.{within}
 use Rattle.buffers.specs.Bytes.{zeros}
 use Rattle.wire.specs.Strings.{number32}
-use Rattle.messages.specs.Messages.{within}
 use Rattle.methods.specs.Rows.{rowOf}
 use Rattle.methods.specs.Form.{lengthFits}
 use Rattle.methods.specs.declared.KForm.{KForm}
 use Rattle.methods.specs.declared.KForm.the-variants.{Mpint, Digest}
 use Rattle.methods.specs.declared.Method.{Method}
-use Rattle.secret.specs.Secret.{kSize}
 use Rattle.exchange.specs.Causes.{methodOk, blobOk}
 use Rattle.exchange.specs.declared.Stage.{Stage}
 use Rattle.exchange.specs.declared.Stage.the-variants.{Started, CSent, InitRead, ReplyRead, SecretDone, Complete, Failed}
 use Rattle.exchange.specs.declared.Lengths.{Lengths}
 use Rattle.exchange.specs.declared.Exchange.{Exchange}
 
--- no lengths, an exchange that a number ended, and one that never began
+-- no field is recorded
 abbrev pub noLengths : Lengths
 noLengths = record { vc = 0; vs = 0; ic = 0; is = 0; ks = 0; c = 0; s = 0 }
 
+-- an exchange that a number ended: no lengths, no K, its role and method kept; a refused start's role and method are 0
 unfoldable pub ended : ℕ → ℕ → ℕ → Exchange
 ended n role m = record { stage = Failed n; role = role; method = m; lens = noLengths; k = zeros kSize }
 
@@ -46,7 +46,7 @@ serverNext Complete = 0
 serverNext (Failed n) = 0
 
 abbrev pub nextStep : ℕ → Stage → ℕ
-nextStep role stage = cond (eqb role 1) (clientNext stage) (cond (eqb role 2) (serverNext stage) 0)
+nextStep role stage = cond (eqb role client) (clientNext stage) (cond (eqb role server) (serverNext stage) 0)
 
 -- which of C, K_S and S, and K, a stage has
 abbrev pub hasC : Stage → Bool
@@ -85,7 +85,7 @@ sFits r stage l = cond (hasS stage) (blobOk (l .ks) && lengthFits (r .s) (l .s))
 
 unfoldable pub lengthsFit : Method → Stage → Lengths → Bool
 lengthsFit r stage l =
-    within 1 253 (l .vc) && within 1 253 (l .vs) && within 1 4096 (l .ic) && within 1 4096 (l .is)
+    within 1 versionMost (l .vc) && within 1 versionMost (l .vs) && within 1 kexinitMost (l .ic) && within 1 kexinitMost (l .is)
     && cFits r stage l && sFits r stage l
 
 -- K's length inside its record, its four length bytes included, and whether the method allows it

@@ -1,34 +1,35 @@
 -- What the start and each step answer and leave: the definitions that the contracts cite. Assumes nothing.
 use Prim.Native.Nat.{ℕ, _+_, _≤_, _<_}
-use mathlib.Core.List.{List, [], _∷_, _++_}
-use mathlib.Core.Bool.{Bool, true, false, cond, _&&_}
+use mathlib.Core.List.{List, _++_}
+use mathlib.Core.Bool.{Bool, cond}
 use lib.ListN.{length, take, drop}
-use lib.Dec.{ltb, leb, eqb}
+use lib.Dec.{ltb, eqb}
+use Rattle.limits.specs.Limits.{kSize, roomLeast, server}
 use Rattle.buffers.specs.Bytes.{zeros, onto, over}
 use Rattle.wire.specs.Causes.{causeIf, causeUnless}
 use Rattle.wire.specs.Parts.{nothing}
 use Rattle.wire.specs.declared.Part.{Part}
 use Rattle.messages.specs.Messages.{initBytes, replyBytes, fieldPart, fieldOf}
-use Rattle.secret.specs.Secret.{kSize}
-use Rattle.transcript.specs.Fields.{field, fieldLength}
-use Rattle.exchange.specs.Causes.{roomLeast, startCause, ownCCause, initCause, replyCause, secretCause, signCause, verdictCause, kOf}
-use Rattle.exchange.specs.Record.{noLengths, ended, kLength, due}
+use Rattle.transcript.specs.Fields.{field, fieldLength, fieldSize, sizeSum}
+use Rattle.exchange.specs.Causes.{startCause, ownCCause, initCause, replyCause, secretCause, signCause, verdictCause, kOf}
+use Rattle.exchange.specs.Numbers.{kind, byKind}
+use Rattle.exchange.specs.Record.{ended, kLength, due}
 use Rattle.exchange.specs.declared.Classical.{Classical}
 use Rattle.exchange.specs.declared.Kem.{Kem}
 use Rattle.exchange.specs.declared.Stage.{Stage}
-use Rattle.exchange.specs.declared.Stage.the-variants.{Started, CSent, InitRead, ReplyRead, SecretDone, Complete, Failed}
+use Rattle.exchange.specs.declared.Stage.the-variants.{Started, CSent, InitRead, ReplyRead, SecretDone, Complete}
 use Rattle.exchange.specs.declared.Lengths.{Lengths}
 use Rattle.exchange.specs.declared.Exchange.{Exchange}
 use Rattle.exchange.specs.declared.Step.{Step}
 
--- a call of a step with what it is handed; an output is its bytes as the call finds them
+-- a call of a step with what it is handed; of an output, its length
 pub data Call : Type 0 where
-  ownC : (c out : List ℕ) → Call
+  ownC : (c : List ℕ) (out : ℕ) → Call
   init : (payload : List ℕ) → Call
   reply : (payload : List ℕ) → Call
   secret : (cl : Classical) (x : List ℕ) (kem : Kem) (digest ks s : List ℕ) → Call
-  sign : (signature out kOut : List ℕ) → Call
-  verdict : (signature hostKey : Bool) (kOut : List ℕ) → Call
+  sign : (signature : List ℕ) (out kOut : ℕ) → Call
+  verdict : (signature hostKey : Bool) (kOut : ℕ) → Call
 
 -- the steps' numbers
 abbrev pub stepNo : Call → ℕ
@@ -41,31 +42,19 @@ stepNo (verdict a b kOut) = 6
 
 -- the first cause in what a call is fed, by role and method
 unfoldable pub fedCause : ℕ → ℕ → Call → ℕ
-fedCause role m (ownC c out) = ownCCause m c (length out)
+fedCause role m (ownC c out) = ownCCause m c out
 fedCause role m (init p) = initCause m p
 fedCause role m (reply p) = replyCause m p
 fedCause role m (secret cl x kem d ks s) = secretCause role m cl x kem d ks s
-fedCause role m (sign g out kOut) = signCause g (length out) (length kOut)
-fedCause role m (verdict a b kOut) = verdictCause a b (length kOut)
+fedCause role m (sign g out kOut) = signCause g out kOut
+fedCause role m (verdict a b kOut) = verdictCause a b kOut
 
 -- a call's number: 1 where its step is not due, 3 where the room is too short, then what it is fed
-unfoldable pub numbered : ℕ → Exchange → ℕ → ℕ → ℕ
-numbered n e room fed = causeUnless (due n e) 1 (causeIf (ltb room roomLeast) 3 fed)
+unfoldable pub stepNumber : ℕ → Exchange → ℕ → ℕ → ℕ
+stepNumber n e room fed = causeUnless (due n e) 1 (causeIf (ltb room roomLeast) 3 fed)
 
 unfoldable pub number : Exchange → List ℕ → Call → ℕ
-number e room q = numbered (stepNo q) e (length room) (fedCause (e .role) (e .method) q)
-
--- what kind of answer a number is: 1 to 5 change nothing, a greater one is a peer fault
-pub data Kind : Type 0 where
-  accepted refused fault : Kind
-
-unfoldable pub kind : ℕ → Kind
-kind n = cond (eqb n 0) accepted (cond (leb n 5) refused fault)
-
-abbrev pub byKind {ℓ} : {A : Type ℓ} → Kind → A → A → A → A
-byKind accepted a r f = a
-byKind refused a r f = r
-byKind fault a r f = f
+number e room q = stepNumber (stepNo q) e (length room) (fedCause (e .role) (e .method) q)
 
 -- ---- the room, by the lengths that the exchange records
 
@@ -75,6 +64,13 @@ headEnd l = fieldLength (l .vc) + fieldLength (l .vs) + fieldLength (l .ic) + fi
 
 abbrev pub fieldsEnd : Lengths → ℕ
 fieldsEnd l = headEnd l + fieldLength (l .ks) + fieldLength (l .c) + fieldLength (l .s)
+
+-- the same as the code counts them, where no sum wraps
+unfoldable pub headSize : Lengths → ℕ
+headSize l = sizeSum (sizeSum (sizeSum (fieldSize (l .vc)) (fieldSize (l .vs))) (fieldSize (l .ic))) (fieldSize (l .is))
+
+unfoldable pub fieldsSize : Lengths → ℕ
+fieldsSize l = sizeSum (sizeSum (sizeSum (headSize l) (fieldSize (l .ks))) (fieldSize (l .c))) (fieldSize (l .s))
 
 -- C as it stands in the room, its length bytes with it, where K_S is missing
 abbrev pub standingC : Lengths → List ℕ → List ℕ
@@ -90,7 +86,7 @@ standingS l room = take (l .s) (drop (headEnd l + fieldLength (l .ks) + fieldLen
 -- the room after an accepted call: fields join at the end; K_S goes in ahead of C, and S behind it
 abbrev pub secretRoom : ℕ → Lengths → List ℕ → List ℕ → List ℕ → List ℕ → List ℕ
 secretRoom role l room ks s k =
-    cond (eqb role 2)
+    cond (eqb role server)
     (over room (headEnd l) (field ks ++ standingC l room ++ field s ++ k))
     (over room (fieldsEnd l) k)
 
@@ -112,8 +108,8 @@ abbrev pub withS : Lengths → ℕ → ℕ → Lengths
 withS l ks s = record { vc = l .vc; vs = l .vs; ic = l .ic; is = l .is; ks = ks; c = l .c; s = s }
 
 -- an exchange at another stage, with these lengths and this K record
-abbrev pub at : Exchange → Stage → Lengths → List ℕ → Exchange
-at e stage lens k = record { stage = stage; role = e .role; method = e .method; lens = lens; k = k }
+abbrev pub withStage : Exchange → Stage → Lengths → List ℕ → Exchange
+withStage e stage lens k = record { stage = stage; role = e .role; method = e .method; lens = lens; k = k }
 
 -- the K record of K's bytes
 unfoldable pub kRecord : List ℕ → List ℕ
@@ -121,13 +117,13 @@ kRecord k = onto (zeros kSize) k
 
 -- after an accepted call
 unfoldable pub taken : Exchange → Call → Exchange
-taken e (ownC c out) = at e CSent (withC (e .lens) (length c)) (e .k)
-taken e (init p) = at e InitRead (withC (e .lens) (length (fieldOf p 0))) (e .k)
-taken e (reply p) = at e ReplyRead (withS (e .lens) (length (fieldOf p 0)) (length (fieldOf p 1))) (e .k)
+taken e (ownC c out) = withStage e CSent (withC (e .lens) (length c)) (e .k)
+taken e (init p) = withStage e InitRead (withC (e .lens) (length (fieldOf p 0))) (e .k)
+taken e (reply p) = withStage e ReplyRead (withS (e .lens) (length (fieldOf p 0)) (length (fieldOf p 1))) (e .k)
 taken e (secret cl x kem d ks s) =
-    at e SecretDone (cond (eqb (e .role) 2) (withS (e .lens) (length ks) (length s)) (e .lens)) (kRecord (kOf (e .method) x d))
-taken e (sign g out kOut) = at e Complete (e .lens) (e .k)
-taken e (verdict a b kOut) = at e Complete (e .lens) (e .k)
+    withStage e SecretDone (cond (eqb (e .role) server) (withS (e .lens) (length ks) (length s)) (e .lens)) (kRecord (kOf (e .method) x d))
+taken e (sign g out kOut) = withStage e Complete (e .lens) (e .k)
+taken e (verdict a b kOut) = withStage e Complete (e .lens) (e .k)
 
 unfoldable pub exchangeAfter : Exchange → List ℕ → Call → Exchange
 exchangeAfter e room q = byKind (kind (number e room q)) (taken e q) e (ended (number e room q) (e .role) (e .method))
@@ -200,16 +196,7 @@ unfoldable pub startedRoom : ℕ → ℕ → List ℕ → List ℕ → List ℕ 
 startedRoom role m vc vs ic is room =
     cond (eqb (startCause role m vc vs ic is (length room)) 0) (onto room (field vc ++ field vs ++ field ic ++ field is)) room
 
--- ---- bounds, under which the code's sums do not wrap
-
-pub record Small (l : Lengths) : Type 0 where
-  pub vc : l .vc ≤ 4096
-  pub vs : l .vs ≤ 4096
-  pub ic : l .ic ≤ 4096
-  pub is : l .is ≤ 4096
-  pub ks : l .ks ≤ 4096
-  pub c : l .c ≤ 4096
-  pub s : l .s ≤ 4096
+-- ---- a bound
 
 -- both V and both I are there and fit the room
 pub record HeadFits (room vc vs ic is : List ℕ) : Type 0 where

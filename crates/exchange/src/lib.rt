@@ -37,7 +37,7 @@ pub struct Exchange {
     pub role: u8,
     pub method: u8,
     pub lens: Lengths,
-    pub k: [u8; secret::K_SIZE],
+    pub k: [u8; limits::K_SIZE],
 }
 
 // What the classical primitive gave: nothing, or so many bytes, lent beside it.

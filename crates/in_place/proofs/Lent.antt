@@ -24,14 +24,14 @@ use denote.Struct.Steps.{spelt}
 use denote.Struct.Laws as LL
 use Rattle.exchange.specs.declared.Exchange.{Exchange}
 use Rattle.exchange.specs.declared.Step.{Step as Answered}
-use Rattle.in_place.specs.declared.Answer.{Answer}
-use Rattle.in_place.specs.InPlace.{answerOf}
+use Rattle.in_place.specs.declared.Counts.{Counts}
+use Rattle.in_place.specs.InPlace.{countsOf}
 use Rattle.exchange.proofs.Exchange as X
 use Rattle.exchange.proofs.Exchange.Laws as X′
 use Rattle.exchange.proofs.Step as S
 use Rattle.exchange.proofs.Step.Laws as S′
-use Rattle.in_place.proofs.Answer as R
-use Rattle.in_place.proofs.Answer.Laws as R′
+use Rattle.in_place.proofs.Counts as R
+use Rattle.in_place.proofs.Counts.Laws as R′
 
 -- the machine values of an exchange, a step's answer, and an answer in place
 abbrev pub mach : Exchange → Val
@@ -40,18 +40,18 @@ mach h = LL.tuple-val X.the-type X′.the-laws (X.the-type .to h)
 abbrev pub mach-s : Answered → Val
 mach-s r = LL.tuple-val S.the-type S′.the-laws (S.the-type .to r)
 
-abbrev pub mach-r : Answer → Val
+abbrev pub mach-r : Counts → Val
 mach-r r = LL.tuple-val R.the-type R′.the-laws (R.the-type .to r)
 
 -- an answer in place is a machine value where the step's was
-pub answers : (r : Answered) (v : Val) → Is S.the-row r (v ∷ []) → Is R.the-row (answerOf r) (mach-r (answerOf r) ∷ [])
-answers r v is = let fields = LL.owed S.the-type S′.the-laws r _ is in LL.owes R.the-type R′.the-laws (answerOf r) (fields .0, (fields .1 .0, (fields .1 .1 .0, tt)))
+pub answers : (r : Answered) (v : Val) → Is S.the-row r (v ∷ []) → Is R.the-row (countsOf r) (mach-r (countsOf r) ∷ [])
+answers r v is = let fields = LL.owed S.the-type S′.the-laws r _ is in LL.owes R.the-type R′.the-laws (countsOf r) (fields .0, (fields .1 .0, (fields .1 .1 .0, tt)))
 
 -- a step's answer of an answer in place and the exchange left, and its machine value
-abbrev pub made : Answer → Exchange → Answered
+abbrev pub made : Counts → Exchange → Answered
 made r y = record { number = r .number; count = r .count; second = r .second; exchange = y }
 
-pub makes-step : (r : Answer) (v : Val) (y : Exchange) → Is R.the-row r (v ∷ []) → Is X.the-row y (mach y ∷ []) → Is S.the-row (made r y) (mach-s (made r y) ∷ [])
+pub makes-step : (r : Counts) (v : Val) (y : Exchange) → Is R.the-row r (v ∷ []) → Is X.the-row y (mach y ∷ []) → Is S.the-row (made r y) (mach-s (made r y) ∷ [])
 makes-step r v y is k = let fields = LL.owed R.the-type R′.the-laws r _ is in LL.owes S.the-type S′.the-laws (made r y) (fields .0, (fields .1 .0, (fields .1 .1 .0, (k, tt))))
 
 -- what a lent exchange owns

@@ -1,3 +1,3 @@
 pub mod Lent
 pub mod ReadWalk
-pub mod ReadThrough
+pub mod ReadOnCopy

@@ -35,15 +35,15 @@ use denote.Signature.{plain, shrSliceOf}
 use Rattle.exchange.specs.declared.Exchange.{Exchange}
 use Rattle.exchange.specs.declared.Step.{Step}
 use Rattle.exchange.specs.Steps.{Call, answered, roomAfter}
-use Rattle.in_place.specs.InPlace.{answerOf, told, left}
+use Rattle.in_place.specs.InPlace.{countsOf, inPlace, left}
 use Rattle.exchange.proofs.Exchange as X
 use Rattle.exchange.proofs.Exchange.Laws as X′
 use Rattle.exchange.proofs.Step as S
 use Rattle.exchange.proofs.Step.Laws as S′
-use Rattle.in_place.proofs.Answer as R
-use Rattle.in_place.proofs.Answer.Laws as R′
+use Rattle.in_place.proofs.Counts as R
+use Rattle.in_place.proofs.Counts.Laws as R′
 use Rattle.in_place.proofs.Lent.{mach, mach-r, answers, Lent, asked, handed, opened, closed, returned}
-use Rattle.steps.proofs.read_init as step
+use Rattle.server.proofs.read_init as step
 use Rattle.in_place.proofs.read_init_in as f
 
 -- the MIR, by the callee's name
@@ -77,7 +77,7 @@ abbrev pub in-place : {M : Type 1} (𝓤 : URA M) → (List ℕ → Call) → Cl
 in-place 𝓤 to-call κs a = record {
   ghost = Unit {0};
   requires = λ _. emp 𝓤;
-  ensures = λ _ r z. fact 𝓤 ((r ≡ told (a .0 .now) (a .1 .0 .now) (to-call (a .1 .1 .0 .now))) × (z .0 .now ≡ left (a .0 .now) (a .1 .0 .now) (to-call (a .1 .1 .0 .now))) × (z .1 .0 .now ≡ roomAfter (a .0 .now) (a .1 .0 .now) (to-call (a .1 .1 .0 .now))));
+  ensures = λ _ r z. fact 𝓤 ((r ≡ inPlace (a .0 .now) (a .1 .0 .now) (to-call (a .1 .1 .0 .now))) × (z .0 .now ≡ left (a .0 .now) (a .1 .0 .now) (to-call (a .1 .1 .0 .now))) × (z .1 .0 .now ≡ roomAfter (a .0 .now) (a .1 .0 .now) (to-call (a .1 .1 .0 .now))));
 }
 
 abbrev pub ByValue : {M : Type 1} (𝓤 : URA M) (H : Heap 𝓤) (A : Atoms 𝓤) → (List ℕ → Call) → Contract 𝓤
@@ -115,15 +115,15 @@ module _ {M : Type 1} (𝓤 : URA M) (H : Heap 𝓤) (A : Atoms 𝓤) (W : Given
   abbrev back : Val → Item 𝓤
   back w = handed Toks (λ r. S.the-row .own r (w ∷ [])) last Said
 
-  exits : (r : Step) (zs : Last) → Said r zs → Is R.the-row (answerOf r) (mach-r (answerOf r) ∷ []) → ent 𝓤 (⋆ 𝓤 H A (‵ (Lent κ (e .name) (r .exchange) (e .ptr .0) (e .ptr .1)) ∷ ‵ (flft κ q) ∷ ‵ (last zs) ∷ Toks ∷ [])) (Post (mach-r (answerOf r)))
+  exits : (r : Step) (zs : Last) → Said r zs → Is R.the-row (countsOf r) (mach-r (countsOf r) ∷ []) → ent 𝓤 (⋆ 𝓤 H A (‵ (Lent κ (e .name) (r .exchange) (e .ptr .0) (e .ptr .1)) ∷ ‵ (flft κ q) ∷ ‵ (last zs) ∷ Toks ∷ [])) (Post (mach-r (countsOf r)))
   exits r zs told is =
       qed W (‵ (Lent κ (e .name) (r .exchange) (e .ptr .0) (e .ptr .1)) ∷ ‵ (flft κ q) ∷ ‵ (last zs) ∷ Toks ∷ []) ∵
       move ! (2 ∷ []) $ fsplit ! $ drop ! $ fsplit ! $ fsplit ! $ move ! (1 ∷ []) $ feqL ! (λ l.
-      suffices ! _ (ends-at 𝓤 H A f.ended stayed (in-place 𝓤 to-call) W y (mach-r (answerOf r)) (answerOf r) (r .exchange, (zs .1 .0, (tt, tt))) (tt, (l, (tt, tt)))) $
-      says ! (ap answerOf (told .0), ap (λ (z : Step). z .exchange) (told .0), told .1) $
+      suffices ! _ (ends-at 𝓤 H A f.ended stayed (in-place 𝓤 to-call) W y (mach-r (countsOf r)) (countsOf r) (r .exchange, (zs .1 .0, (tt, tt))) (tt, (l, (tt, tt)))) $
+      says ! (ap countsOf (told .0), ap (λ (z : Step). z .exchange) (told .0), told .1) $
       -- [the last list; …; the lent exchange; its token; the tokens]
       move ! (3 ∷ 4 ∷ []) $ join ! $ frame ! $ fjoin ! $ move ! (1 ∷ 0 ∷ []) $ fjoin ! $
-      owned ! R.the-row (Is R.the-row) (LL.makes R.the-type R′.the-plain 𝓤 H A) (answerOf r) _ is $ move ! (1 ∷ 0 ∷ []) $ done !)
+      owned ! R.the-row (Is R.the-row) (LL.makes R.the-type R′.the-plain 𝓤 H A) (countsOf r) _ is $ move ! (1 ∷ 0 ∷ []) $ done !)
 
   module _ (C : Calls 𝓤 H) (Λ : Loops 𝓤 H) (fm : FmC 𝓤 H (W .laws) C) (f : Name) (met : Triple 𝓤 (C f) (ByValue 𝓤 H A to-call)) where
     known : ent 𝓤 (mean 𝓤 H A (asked Toks (e .now) rest)) (C f (mach (e .now) ∷ s x ∷ s p ∷ []) (λ w. mean 𝓤 H A (back w)))
@@ -151,7 +151,7 @@ module _ {M : Type 1} (𝓤 : URA M) (H : Heap 𝓤) (A : Atoms 𝓤) (W : Given
         let fields = LL.owed S.the-type S′.the-laws r _ is in
         assigns ! (of-opd ! (load ! (from ! (fld ! refl (stop !))) (look-in ! 12 (sub ! 3 refl (whole !))))) (from ! (hop ! (look ! 18 refl) (stop !))) (store-raw ! 2 refl (LL.lawful X.the-type X′.the-laws 𝓤 H A W .typed (r .exchange) _ (fields .1 .1 .1 .0) .0)) $
         assigns ! (agg ! (and-then ! (load ! (from ! (fld ! refl (stop !))) (look-in ! 12 (sub ! 0 refl (whole !)))) (and-then ! (load ! (from ! (fld ! refl (stop !))) (look-in ! 12 (sub ! 1 refl (whole !)))) (and-then ! (load ! (from ! (fld ! refl (stop !))) (look-in ! 12 (sub ! 2 refl (whole !)))) (no-more !)))))
-        (from ! (stop !)) (init ! 20 refl (LL.lawful R.the-type R′.the-laws 𝓤 H A W .typed (answerOf r) _ (answers r w is) .0)) $
+        (from ! (stop !)) (init ! 20 refl (LL.lawful R.the-type R′.the-laws 𝓤 H A W .typed (countsOf r) _ (answers r w is) .0)) $
         move ! (2 ∷ 3 ∷ 4 ∷ 5 ∷ []) $ closed ! tt (r .exchange) b o (fields .1 .1 .1 .0) $
         -- [the lent exchange; its token; what is said of last values; the tokens; _7; …; _0; …]
         returns ! (look ! 18 refl) $ forget ! 4 refl $ forget ! 6 refl $ forget ! 8 refl $ forget ! 10 refl $ forget ! 12 refl $ forget ! 14 refl $ forget ! 16 refl $ forget ! 18 refl $

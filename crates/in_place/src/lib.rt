@@ -5,25 +5,26 @@ use exchange::Exchange;
 use exchange::Kem;
 use exchange::Step;
 ghost use mathlib.Core.Path.{_≡_};
+ghost use lib.ListN.{length};
 ghost use Rattle.exchange.specs.Steps.{init, reply, secret as secretStep, verdict as verdictStep, number, answered, roomAfter, outputAfter};
-ghost use Rattle.in_place.specs.InPlace.{told, left};
+ghost use Rattle.in_place.specs.InPlace.{inPlace, left};
 
 // What a step in place answers: its number and its counts.
-pub struct Answer {
+pub struct Counts {
     pub number: u8,
     pub count: usize,
     pub second: usize,
 }
 
 // Server, INIT read, in place.
-pub fn read_init_in(e: &mut Exchange, room: &mut [u8], payload: &[u8]) -> Answer
+pub fn read_init_in(e: &mut Exchange, room: &mut [u8], payload: &[u8]) -> Counts
     ensures { λ r.
         let q = init (now (payload .entry)) in
-        ⌜ (r ≡ told (now (e .entry)) (now (room .entry)) q) × (now (e .exit) ≡ left (now (e .entry)) (now (room .entry)) q) × (now (room .exit) ≡ roomAfter (now (e .entry)) (now (room .entry)) q) ⌝ }
+        ⌜ (r ≡ inPlace (now (e .entry)) (now (room .entry)) q) × (now (e .exit) ≡ left (now (e .entry)) (now (room .entry)) q) × (now (room .exit) ≡ roomAfter (now (e .entry)) (now (room .entry)) q) ⌝ }
 {
-    let r = steps::read_init(*e, room, payload);
+    let r = server::read_init(*e, room, payload);
     *e = r.exchange;
-    Answer {
+    Counts {
         number: r.number,
         count: r.count,
         second: r.second,
@@ -31,14 +32,14 @@ pub fn read_init_in(e: &mut Exchange, room: &mut [u8], payload: &[u8]) -> Answer
 }
 
 // Client, REPLY read, in place.
-pub fn read_reply_in(e: &mut Exchange, room: &mut [u8], payload: &[u8]) -> Answer
+pub fn read_reply_in(e: &mut Exchange, room: &mut [u8], payload: &[u8]) -> Counts
     ensures { λ r.
         let q = reply (now (payload .entry)) in
-        ⌜ (r ≡ told (now (e .entry)) (now (room .entry)) q) × (now (e .exit) ≡ left (now (e .entry)) (now (room .entry)) q) × (now (room .exit) ≡ roomAfter (now (e .entry)) (now (room .entry)) q) ⌝ }
+        ⌜ (r ≡ inPlace (now (e .entry)) (now (room .entry)) q) × (now (e .exit) ≡ left (now (e .entry)) (now (room .entry)) q) × (now (room .exit) ≡ roomAfter (now (e .entry)) (now (room .entry)) q) ⌝ }
 {
-    let r = steps::read_reply(*e, room, payload);
+    let r = client::read_reply(*e, room, payload);
     *e = r.exchange;
-    Answer {
+    Counts {
         number: r.number,
         count: r.count,
         second: r.second,
@@ -55,14 +56,14 @@ pub fn take_secret_in(
     digest: &[u8],
     ks: &[u8],
     s: &[u8],
-) -> Answer
+) -> Counts
     ensures { λ r.
         let q = secretStep cl (now (x .entry)) kem (now (digest .entry)) (now (ks .entry)) (now (s .entry)) in
-        ⌜ (r ≡ told (now (e .entry)) (now (room .entry)) q) × (now (e .exit) ≡ left (now (e .entry)) (now (room .entry)) q) × (now (room .exit) ≡ roomAfter (now (e .entry)) (now (room .entry)) q) ⌝ }
+        ⌜ (r ≡ inPlace (now (e .entry)) (now (room .entry)) q) × (now (e .exit) ≡ left (now (e .entry)) (now (room .entry)) q) × (now (room .exit) ≡ roomAfter (now (e .entry)) (now (room .entry)) q) ⌝ }
 {
     let r = steps::take_secret(*e, room, cl, x, kem, digest, ks, s);
     *e = r.exchange;
-    Answer {
+    Counts {
         number: r.number,
         count: r.count,
         second: r.second,
@@ -76,25 +77,25 @@ pub fn verdict_in(
     signature: bool,
     host_key: bool,
     k_out: &mut [u8],
-) -> Answer
+) -> Counts
     ensures { λ r.
-        let q = verdictStep signature «host_key» (now («k_out» .entry)) in
-        ⌜ (r ≡ told (now (e .entry)) (now (room .entry)) q) × (now (e .exit) ≡ left (now (e .entry)) (now (room .entry)) q) × (now (room .exit) ≡ roomAfter (now (e .entry)) (now (room .entry)) q) × (now («k_out» .exit) ≡ outputAfter (number (now (e .entry)) (now (room .entry)) q) (now («k_out» .entry)) ((now (e .entry)) .k)) ⌝ }
+        let q = verdictStep signature «host_key» (length (now («k_out» .entry))) in
+        ⌜ (r ≡ inPlace (now (e .entry)) (now (room .entry)) q) × (now (e .exit) ≡ left (now (e .entry)) (now (room .entry)) q) × (now (room .exit) ≡ roomAfter (now (e .entry)) (now (room .entry)) q) × (now («k_out» .exit) ≡ outputAfter (number (now (e .entry)) (now (room .entry)) q) (now («k_out» .entry)) ((now (e .entry)) .k)) ⌝ }
 {
-    let r = steps::verdict(*e, room, signature, host_key, k_out);
+    let r = client::verdict(*e, room, signature, host_key, k_out);
     *e = r.exchange;
-    Answer {
+    Counts {
         number: r.number,
         count: r.count,
         second: r.second,
     }
 }
 
-// The steps in place on a copy: their parameters are plain, so a caller needs no walk.
-pub fn read_init_through(e: Exchange, room: &mut [u8], payload: &[u8]) -> Step
+// The steps in place, each lent a local copy of the exchange: their parameters are plain, so a caller needs no walk.
+pub fn read_init_on_copy(e: Exchange, room: &mut [u8], payload: &[u8]) -> Step
     ensures { λ r.
-        let q = init (now (payload .entry)) in
-        ⌜ (r ≡ answered e (now (room .entry)) q) × (now (room .exit) ≡ roomAfter e (now (room .entry)) q) ⌝ }
+        let call = init (now (payload .entry)) in
+        ⌜ (r ≡ answered e (now (room .entry)) call) × (now (room .exit) ≡ roomAfter e (now (room .entry)) call) ⌝ }
 {
     let mut y = e;
     let a = read_init_in(&mut y, room, payload);
@@ -106,10 +107,10 @@ pub fn read_init_through(e: Exchange, room: &mut [u8], payload: &[u8]) -> Step
     }
 }
 
-pub fn read_reply_through(e: Exchange, room: &mut [u8], payload: &[u8]) -> Step
+pub fn read_reply_on_copy(e: Exchange, room: &mut [u8], payload: &[u8]) -> Step
     ensures { λ r.
-        let q = reply (now (payload .entry)) in
-        ⌜ (r ≡ answered e (now (room .entry)) q) × (now (room .exit) ≡ roomAfter e (now (room .entry)) q) ⌝ }
+        let call = reply (now (payload .entry)) in
+        ⌜ (r ≡ answered e (now (room .entry)) call) × (now (room .exit) ≡ roomAfter e (now (room .entry)) call) ⌝ }
 {
     let mut y = e;
     let a = read_reply_in(&mut y, room, payload);
@@ -121,7 +122,7 @@ pub fn read_reply_through(e: Exchange, room: &mut [u8], payload: &[u8]) -> Step
     }
 }
 
-pub fn take_secret_through(
+pub fn take_secret_on_copy(
     e: Exchange,
     room: &mut [u8],
     cl: Classical,
@@ -132,8 +133,8 @@ pub fn take_secret_through(
     s: &[u8],
 ) -> Step
     ensures { λ r.
-        let q = secretStep cl (now (x .entry)) kem (now (digest .entry)) (now (ks .entry)) (now (s .entry)) in
-        ⌜ (r ≡ answered e (now (room .entry)) q) × (now (room .exit) ≡ roomAfter e (now (room .entry)) q) ⌝ }
+        let call = secretStep cl (now (x .entry)) kem (now (digest .entry)) (now (ks .entry)) (now (s .entry)) in
+        ⌜ (r ≡ answered e (now (room .entry)) call) × (now (room .exit) ≡ roomAfter e (now (room .entry)) call) ⌝ }
 {
     let mut y = e;
     let a = take_secret_in(&mut y, room, cl, x, kem, digest, ks, s);
@@ -145,7 +146,7 @@ pub fn take_secret_through(
     }
 }
 
-pub fn verdict_through(
+pub fn verdict_on_copy(
     e: Exchange,
     room: &mut [u8],
     signature: bool,
@@ -153,8 +154,8 @@ pub fn verdict_through(
     k_out: &mut [u8],
 ) -> Step
     ensures { λ r.
-        let q = verdictStep signature «host_key» (now («k_out» .entry)) in
-        ⌜ (r ≡ answered e (now (room .entry)) q) × (now (room .exit) ≡ roomAfter e (now (room .entry)) q) × (now («k_out» .exit) ≡ outputAfter (number e (now (room .entry)) q) (now («k_out» .entry)) (e .k)) ⌝ }
+        let call = verdictStep signature «host_key» (length (now («k_out» .entry))) in
+        ⌜ (r ≡ answered e (now (room .entry)) call) × (now (room .exit) ≡ roomAfter e (now (room .entry)) call) × (now («k_out» .exit) ≡ outputAfter (number e (now (room .entry)) call) (now («k_out» .entry)) (e .k)) ⌝ }
 {
     let mut y = e;
     let a = verdict_in(&mut y, room, signature, host_key, k_out);

@@ -38,7 +38,7 @@ fn sum(s: &[u8]) -> usize {
 }
 
 // Prints a call's answer, and hands on its exchange.
-fn told(name: &[u8], st: Step, room: &[u8]) -> Exchange {
+fn printed(name: &[u8], st: Step, room: &[u8]) -> Exchange {
     text(name);
     item(st.number as usize);
     item(st.count);
@@ -99,24 +99,24 @@ fn start(role: u8, rec: &[u8], room: &mut [u8]) -> Exchange {
 }
 
 fn own_c(e: Exchange, rec: &[u8], room: &mut [u8]) -> Exchange {
-    let mut out = [0u8; 1670];
-    let st = steps::own_c(e, room, field(rec, C), &mut out);
+    let mut out = [0u8; limits::INIT_LEAST];
+    let st = client::own_c(e, room, field(rec, C), &mut out);
     st.exchange
 }
 
 fn init(e: Exchange, payload: &[u8], room: &mut [u8]) -> Exchange {
-    let st = in_place::read_init_through(e, room, payload);
-    told(b"INIT", st, room)
+    let st = in_place::read_init_on_copy(e, room, payload);
+    printed(b"INIT", st, room)
 }
 
 fn reply(e: Exchange, payload: &[u8], room: &mut [u8]) -> Exchange {
-    let st = in_place::read_reply_through(e, room, payload);
-    told(b"REPLY", st, room)
+    let st = in_place::read_reply_on_copy(e, room, payload);
+    printed(b"REPLY", st, room)
 }
 
 fn secret(e: Exchange, rec: &[u8], room: &mut [u8]) -> Exchange {
     let x = field(rec, X);
-    let st = in_place::take_secret_through(
+    let st = in_place::take_secret_on_copy(
         e,
         room,
         Classical::Given(x.len()),
@@ -126,13 +126,13 @@ fn secret(e: Exchange, rec: &[u8], room: &mut [u8]) -> Exchange {
         field(rec, K_S),
         field(rec, S),
     );
-    told(b"secret", st, room)
+    printed(b"secret", st, room)
 }
 
 fn verdict(e: Exchange, room: &mut [u8]) {
-    let mut k = [0x55u8; 71];
-    let st = in_place::verdict_through(e, room, true, true, &mut k);
-    told(b"verdict", st, room);
+    let mut k = [0x55u8; limits::K_SIZE];
+    let st = in_place::verdict_on_copy(e, room, true, true, &mut k);
+    printed(b"verdict", st, room);
     text(b"K");
     item(sum(&k));
     text(b"\n");
@@ -160,7 +160,7 @@ fn server(rec: &[u8], first: &[u8], room: &mut [u8]) {
 
 fn main() {
     let mut space = io::large_buffer();
-    let mut room = [0x55u8; 14156];
+    let mut room = [0x55u8; limits::ROOM_LEAST];
     let n = io::read_full(STDIN_FILENO, &mut space);
     let rec = &space[..n];
     client(rec, &mut room);

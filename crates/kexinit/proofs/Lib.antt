@@ -1,3 +1,1 @@
 pub mod ReaderLaws
-pub mod WriterLaws
-pub mod RoundTrip

@@ -1,60 +1,68 @@
--- KEXINIT as it is read: judged whole, then opened for one list. Names are judged only as they are yielded. Assumes nothing.
+-- KEXINIT as it is read (RFC 4253, section 7.1): judged whole, then opened for one list. Names are judged only as they are yielded. Stricter
+-- than the RFC, as document 01 says: 4,096 bytes at most. Assumes nothing.
 use Prim.Native.Nat.{ℕ, _+_, _-_}
 use mathlib.Core.List.{List}
-use mathlib.Core.Bool.{Bool, false, cond, not, _&&_}
-use lib.ListN.{length, getD}
-use lib.Dec.{ltb, leb, eqb}
-use Rattle.wire.specs.Causes.{causeIf, causeUnless}
+use mathlib.Core.Bool.{false, cond, not}
+use lib.ListN.{getD}
+use lib.Dec.{eqb}
+use Rattle.limits.specs.Limits.{kexinitMost, cookieSize, listCount}
+use Rattle.limits.specs.Range.{within}
+use Rattle.wire.specs.Causes.{causeUnless}
 use Rattle.wire.specs.Parts.{part, nothing, bytesAt}
-use Rattle.wire.specs.Strings.{fieldAt, walk, numberAt}
+use Rattle.wire.specs.Strings.{numberAt, stringPart}
 use Rattle.wire.specs.declared.Part.{Part}
+use Rattle.messages.specs.Payload.{stringsEnd, messageCause}
+use Rattle.messages.specs.declared.Layout.{Layout}
 use Rattle.names.specs.Names.{namesOf}
-use Rattle.names.specs.Cursor.{done, cursorOf}
-use Rattle.kexinit.specs.declared.Judged.{Judged}
+use Rattle.names.specs.Cursor.{exhausted, cursorOf}
+use Rattle.kexinit.specs.declared.Head.{Head}
 use Rattle.kexinit.specs.declared.Opened.{Opened}
 
--- where the boolean stands: behind the message byte, the cookie and ten lists
-abbrev pub booleanAt : List ℕ → ℕ
-booleanAt p = walk p 17 10 .place
-
--- whether no field passes the end: the lists, and then the boolean and the reserved number; with them the cookie
-unfoldable pub fieldsFit : List ℕ → Bool
-fieldsFit p = eqb (walk p 17 10 .number) 0 && leb (booleanAt p + 5) (length p)
+-- byte 20, 16 cookie bytes, ten name-lists; a boolean and a 32-bit number behind them
+abbrev pub kexinitLayout : Layout
+kexinitLayout = record { most = kexinitMost; byte = 20; first = 1 + cookieSize; count = listCount; behind = 5 }
 
 -- why a payload is refused
-unfoldable pub kexinitCause : List ℕ → ℕ
-kexinitCause p =
-    causeUnless (leb 1 (length p) && leb (length p) 4096) 10
-    (causeUnless (eqb (getD p 0 0) 20) 11
-    (causeUnless (fieldsFit p) 12
-    (causeIf (ltb (booleanAt p + 5) (length p)) 13 0)))
+abbrev pub kexinitCause : List ℕ → ℕ
+kexinitCause p = messageCause kexinitLayout p
 
-unfoldable pub judged : List ℕ → Judged
-judged p = record { number = kexinitCause p; place = cond (eqb (kexinitCause p) 0) (booleanAt p) 0 }
+-- where the boolean stands
+abbrev pub booleanAt : List ℕ → ℕ
+booleanAt p = stringsEnd kexinitLayout p
 
 -- the place of list n, and its names
-unfoldable pub listPart : List ℕ → ℕ → Part
-listPart p n = part (fieldAt p (walk p 17 (n - 1) .place) .start) (fieldAt p (walk p 17 (n - 1) .place) .len)
+abbrev pub listPart : List ℕ → ℕ → Part
+listPart p n = stringPart p (kexinitLayout .first) (n - 1)
 
 abbrev pub listNames : List ℕ → ℕ → List (List ℕ)
 listNames p n = namesOf (bytesAt p (listPart p n))
 
+-- cookie, boolean and reserved number: any boolean byte but 0 is true, and the reserved number is as found
+abbrev pub headAt : List ℕ → Head
+headAt p = record {
+  number = 0;
+  cookie = part 1 cookieSize;
+  follows = not (eqb (getD p (booleanAt p) 0) 0);
+  reserved = numberAt p (booleanAt p + 1);
+}
+
+abbrev pub headRefused : ℕ → Head
+headRefused k = record { number = k; cookie = nothing; follows = false; reserved = 0 }
+
+-- a payload opened, by the first cause against it
+unfoldable pub headBy : ℕ → List ℕ → Head
+headBy k p = cond (eqb k 0) (headAt p) (headRefused k)
+
+abbrev pub openHead : List ℕ → Head
+openHead p = headBy (kexinitCause p) p
+
 -- why opening a payload for list n is refused
 unfoldable pub openCause : List ℕ → ℕ → ℕ
-openCause p n = causeUnless (leb 1 n && leb n 10) 4 (kexinitCause p)
+openCause p n = causeUnless (within 1 listCount n) 4 (kexinitCause p)
 
-abbrev pub refusal : ℕ → Opened
-refusal k = record { number = k; cookie = nothing; follows = false; reserved = 0; cursor = done }
-
--- a payload opened for list n: any boolean byte but 0 is true, and the reserved number is as found
+-- a payload opened for list n; a refused one yields only the end
 unfoldable pub openList : List ℕ → ℕ → Opened
-openList p n =
-    cond (eqb (openCause p n) 0)
-    (record {
-      number = 0;
-      cookie = part 1 16;
-      follows = not (eqb (getD p (booleanAt p) 0) 0);
-      reserved = numberAt p (booleanAt p + 1);
-      cursor = cursorOf (listPart p n);
-    })
-    (refusal (openCause p n))
+openList p n = record {
+  head = headBy (openCause p n) p;
+  cursor = cond (eqb (openCause p n) 0) (cursorOf (listPart p n)) exhausted;
+}

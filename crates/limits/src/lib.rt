@@ -24,7 +24,7 @@ pub const STRING_MOST: usize = 4294967295;
 // The cookie of a KEXINIT, and how many name-lists follow it.
 pub const COOKIE_SIZE: usize = 16;
 
-pub const LISTS: usize = 10;
+pub const LIST_COUNT: usize = 10;
 
 // The K record, and the least output for K.
 pub const K_SIZE: usize = 71;

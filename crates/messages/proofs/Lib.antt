@@ -1,2 +1,3 @@
+pub mod PayloadLaws
 pub mod MessageLaws
 pub mod RoundTrip

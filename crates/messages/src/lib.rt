@@ -1,40 +1,73 @@
-// The two messages of a key exchange (RFC 5656, section 4; RFC 8731): INIT is byte 30 and the string C, REPLY is byte 31 and the
-// strings K_S, S and signature. Both are a byte and a run of strings, and are read as such.
-use wire::Part;
+// Payloads of fixed bytes and a run of strings, judged whole; and the two messages of a key exchange (RFC 5656, section 4; RFC 8731): INIT
+// is byte 30 and the string C, REPLY is byte 31 and the strings K_S, S and signature.
 ghost use mathlib.Core.Path.{_≡_};
-ghost use Rattle.messages.specs.Messages.{messageCause, fieldPart};
+ghost use Rattle.messages.specs.Payload.{judged};
 
-// Why a payload is no message with this byte and k strings behind it: 10 to 13, or 0.
-pub fn judge_message(payload: &[u8], byte: u8, k: usize) -> u8
-    ensures { λ r. ⌜ r ≡ messageCause byte k (now (payload .entry)) ⌝ }
-{
-    if payload.len() < 1 {
-        return 10;
-    }
-    if 32768 < payload.len() {
-        return 10;
-    }
-    if payload[0] != byte {
-        return 11;
-    }
-    let w = wire::skip_strings(payload, 1, k);
-    if w.number != 0 {
-        return 12;
-    }
-    if w.place < payload.len() {
-        return 13;
-    }
-    0
+// How a payload is laid out: the most bytes it may have, its message number, where its strings begin, how many they are, and how many
+// bytes follow them.
+pub struct Layout {
+    pub most: usize,
+    pub byte: u8,
+    pub first: usize,
+    pub count: usize,
+    pub behind: usize,
 }
 
-// The place of string i of a message, counted from 0.
-pub fn field_part(payload: &[u8], i: usize) -> Part
-    ensures { λ r. ⌜ r ≡ fieldPart (now (payload .entry)) i ⌝ }
+pub const INIT: Layout = Layout {
+    most: limits::PAYLOAD_MOST,
+    byte: 30,
+    first: 1,
+    count: 1,
+    behind: 0,
+};
+
+pub const REPLY: Layout = Layout {
+    most: limits::PAYLOAD_MOST,
+    byte: 31,
+    first: 1,
+    count: 3,
+    behind: 0,
+};
+
+// A payload judged whole: 0 and where its strings end, or 10 to 13 and 0.
+pub struct Judged {
+    pub number: u8,
+    pub place: usize,
+}
+
+// Judges a payload by its layout: 10 for its size, 11 for its message number, 12 for a field that passes the end, 13 for bytes left over.
+pub fn judge_message(payload: &[u8], l: Layout) -> Judged
+    ensures { λ r. ⌜ r ≡ judged l (now (payload .entry)) ⌝ }
 {
-    let w = wire::skip_strings(payload, 1, i);
-    let f = wire::field_at(payload, w.place);
-    Part {
-        start: f.start,
-        len: f.len,
+    if payload.len() < 1 {
+        return refused(10);
     }
+    if l.most < payload.len() {
+        return refused(10);
+    }
+    if payload[0] != l.byte {
+        return refused(11);
+    }
+    let w = wire::skip_strings(payload, l.first, l.count);
+    if w.number != 0 {
+        return refused(12);
+    }
+    let place = w.place;
+    if payload.len() < place {
+        return refused(12);
+    }
+    if payload.len() - place < l.behind {
+        return refused(12);
+    }
+    if l.behind < payload.len() - place {
+        return refused(13);
+    }
+    Judged { number: 0, place }
+}
+
+// A refusal.
+fn refused(number: u8) -> Judged
+    ensures { λ r. ⌜ (r .number ≡ number) × (r .place ≡ 0) ⌝ }
+{
+    Judged { number, place: 0 }
 }

@@ -2,12 +2,13 @@
 use Prim.Native.Nat.{ℕ, _≤_}
 use mathlib.Core.Path.{_≡_, refl, sym, ap, _∙_}
 use mathlib.Core.List.{List}
-use mathlib.Core.Bool.{Bool, true, false, cond, _&&_}
+use mathlib.Core.Bool.{Bool, true, false, cond}
 use native.Mathlib.Omega.{arith}
 use lib.ListN.{length, getD}
-use lib.Dec.{leb, eqb}
+use lib.Dec.{eqb}
 use borrow.Author.Tests.{eqb-true, eq-eqb, le-leb}
-use Rattle.wire.proofs.StringLaws.{and-true}
+use Rattle.limits.proofs.BoolLaws.{and-true}
+use Rattle.limits.specs.Limits.{methodLast}
 use Rattle.methods.specs.Rows.{rowOf}
 use Rattle.methods.specs.Form.{lengthFits, leadFits, formed}
 use Rattle.methods.specs.declared.Shape.{Shape}
@@ -30,7 +31,7 @@ module _ (h : Shape) (v : List ℕ) where
       by-test false q = refl
 
 -- in methods 4 to 8, on either side, the lead byte is 4
-module _ (n : ℕ) (v : List ℕ) (a : 4 ≤ n) (b : n ≤ 8) (one : 1 ≤ n) (nine : n ≤ 9) where
+module _ (n : ℕ) (v : List ℕ) (a : 4 ≤ n) (b : n ≤ 8) (one : 1 ≤ n) (nine : n ≤ methodLast) where
   point : rowOf n .c .point ≡ true
   point =
       let e = row-number n one nine in
@@ -53,10 +54,10 @@ unfolding formed
 formed-length h v e = and-true (lengthFits h (length v)) (leadFits h v) e .0
 
 -- a method's values are never empty
-pub c-least : (n m : ℕ) → 1 ≤ n → n ≤ 9 → lengthFits (rowOf n .c) m ≡ true → 1 ≤ m
+pub c-least : (n m : ℕ) → 1 ≤ n → n ≤ methodLast → lengthFits (rowOf n .c) m ≡ true → 1 ≤ m
 unfolding lengthFits
 c-least n m a b e = let q = eqb-true m (rowOf n .c .len) e in omega (arith, sound n a b .c-least)
 
-pub s-least : (n m : ℕ) → 1 ≤ n → n ≤ 9 → lengthFits (rowOf n .s) m ≡ true → 1 ≤ m
+pub s-least : (n m : ℕ) → 1 ≤ n → n ≤ methodLast → lengthFits (rowOf n .s) m ≡ true → 1 ≤ m
 unfolding lengthFits
 s-least n m a b e = let q = eqb-true m (rowOf n .s .len) e in omega (arith, sound n a b .s-least)

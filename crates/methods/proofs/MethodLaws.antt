@@ -1,26 +1,24 @@
 -- Laws of `specs/Rows.antt`. A rule of the table is one test, computed over all rows, and holds of every method by `rule`.
 -- Assumes nothing.
-use Prim.Native.Nat.{ℕ, zero, suc, _+_, _-_, _≤_, _<_}
+use Prim.Native.Nat.{ℕ, zero, suc, _+_, _-_, _≤_, _<_, _*_}
 use mathlib.Core.Path.{_≡_, refl, sym, ap, _∙_}
 use mathlib.Core.List.{List, [], _∷_}
 use mathlib.Core.Bool.{Bool, true, false, cond, _&&_}
 use native.Mathlib.Omega.{arith}
 use native.Mathlib.Nat.{add-zero, add-suc, suc-add}
-use lib.ListN.{length, getD, take, drop}
+use lib.ListN.{length, getD, drop}
 use lib.Seq.{drop-cons}
 use lib.Dec.{leb, ltb, eqb}
 use borrow.Author.Tests.{eqb-true, leb-true, ltb-true, eq-eqb, ne-eqb}
 use Rattle.buffers.specs.Bytes.{same}
 use Rattle.wire.specs.Parts.{part, inside, bytesAt}
-use Rattle.wire.proofs.StringLaws.{and-true}
+use Rattle.limits.proofs.BoolLaws.{and-true}
 use Rattle.wire.proofs.PartLaws.{inside-fits}
-use Rattle.methods.specs.Rows.{rows, noRow, nameOf, numbered, named, rowOf, numberOf, kMost}
+use Rattle.limits.specs.Limits.{versionMost, kexinitMost, blobMost, kSize, roomLeast, methodLast}
+use Rattle.limits.specs.Every.{every}
+use Rattle.methods.specs.Rows.{hybrid, rows, noRow, nameOf, rowIn, named, rowOf, numberOf, kMost}
+use Rattle.methods.specs.Sound.{Sound}
 use Rattle.methods.specs.declared.Method.{Method}
-
--- the test f passes at each row
-abbrev pub every : (Method → Bool) → List Method → Bool
-every f [] = true
-every f (r ∷ rs) = f r && every f rs
 
 every-at : (f : Method → Bool) (rs : List Method) → every f rs ≡ true → (i : ℕ) → i < length rs → f (getD rs i noRow) ≡ true
 every-at f [] e i h = let w : ⊥ = omega arith in absurd w
@@ -38,21 +36,21 @@ counted-at k (r ∷ rs) e zero h = eqb-true (r .number) k (and-true (eqb (r .num
 counted-at k (r ∷ rs) e (suc i) h =
     counted-at (suc k) rs (and-true (eqb (r .number) k) (counted (suc k) rs) e .1) i (omega arith) ∙ suc-add k i ∙ sym (add-suc k i)
 
-numbered-at : (k : ℕ) (rs : List Method) → counted k rs ≡ true → (i : ℕ) → i < length rs → numbered (k + i) rs ≡ getD rs i noRow
-numbered-at k [] e i h = let w : ⊥ = omega arith in absurd w
-numbered-at k (r ∷ rs) e zero h =
+rowIn-at : (k : ℕ) (rs : List Method) → counted k rs ≡ true → (i : ℕ) → i < length rs → rowIn (k + i) rs ≡ getD rs i noRow
+rowIn-at k [] e i h = let w : ⊥ = omega arith in absurd w
+rowIn-at k (r ∷ rs) e zero h =
     let n = eqb-true (r .number) k (and-true (eqb (r .number) k) (counted (suc k) rs) e .0) in
     rw (eq-eqb (k + 0) (r .number) (omega arith))
-numbered-at k (r ∷ rs) e (suc i) h =
+rowIn-at k (r ∷ rs) e (suc i) h =
     let a = and-true (eqb (r .number) k) (counted (suc k) rs) e in
     let n = eqb-true (r .number) k (a .0) in
     let m : k + suc i ≡ suc k + i = omega arith in
     let t : eqb (suc k + i) (r .number) ≡ false = ne-eqb (suc k + i) (r .number) (λ q. omega arith) in
-    rw (m, t) (numbered-at (suc k) rs (a .1) i (omega arith))
+    rw (m, t) (rowIn-at (suc k) rs (a .1) i (omega arith))
 
 -- ---- rows
 
-length-rows : length rows ≡ 9
+length-rows : length rows ≡ methodLast
 unfolding rows
 length-rows = refl
 
@@ -62,19 +60,19 @@ rows-counted = refl
 
 -- ---- rowOf
 
-pub row-at : (n : ℕ) → 1 ≤ n → n ≤ 9 → rowOf n ≡ getD rows (n - 1) noRow
+pub row-at : (n : ℕ) → 1 ≤ n → n ≤ methodLast → rowOf n ≡ getD rows (n - 1) noRow
 unfolding rowOf
 row-at n h k =
     let e : 1 + (n - 1) ≡ n = omega arith in
-    ap (λ (m : ℕ). numbered m rows) (sym e) ∙ numbered-at 1 rows rows-counted (n - 1) (omega (arith, length-rows))
+    ap (λ (m : ℕ). rowIn m rows) (sym e) ∙ rowIn-at 1 rows rows-counted (n - 1) (omega (arith, length-rows))
 
-pub row-number : (n : ℕ) → 1 ≤ n → n ≤ 9 → rowOf n .number ≡ n
+pub row-number : (n : ℕ) → 1 ≤ n → n ≤ methodLast → rowOf n .number ≡ n
 row-number n h k =
     let e : 1 + (n - 1) ≡ n = omega arith in
     ap (λ (r : Method). r .number) (row-at n h k) ∙ counted-at 1 rows rows-counted (n - 1) (omega (arith, length-rows)) ∙ e
 
 -- what the test says of every row, it says of every method
-pub rule : (f : Method → Bool) → every f rows ≡ true → (n : ℕ) → 1 ≤ n → n ≤ 9 → f (rowOf n) ≡ true
+pub rule : (f : Method → Bool) → every f rows ≡ true → (n : ℕ) → 1 ≤ n → n ≤ methodLast → f (rowOf n) ≡ true
 rule f e n h k = ap f (row-at n h k) ∙ every-at f rows e (n - 1) (omega (arith, length-rows))
 
 -- no other number has a row
@@ -84,33 +82,13 @@ unfolding rowOf rows
 row-none n a b c d e f g h i =
     rw (ne-eqb n 1 a, ne-eqb n 2 b, ne-eqb n 3 c, ne-eqb n 4 d, ne-eqb n 5 e, ne-eqb n 6 f, ne-eqb n 7 g, ne-eqb n 8 h, ne-eqb n 9 i)
 
--- what holds of every method's row
-pub record Sound (r : Method) : Type 0 where
-  pub name-fits : r .«name_len» ≤ length (r .name)
-  pub c-least : 1 ≤ r .c .len
-  pub c-most : r .c .len ≤ 1665
-  pub c-classical : r .c .classical < r .c .len
-  pub s-least : 1 ≤ r .s .len
-  pub s-most : r .s .len ≤ 1665
-  pub s-classical : r .s .classical < r .s .len
-  pub x-least : 1 ≤ r .«x_len»
-  pub x-most : r .«x_len» ≤ 66
-  pub digest-least : 32 ≤ r .«digest_len»
-  pub digest-most : r .«digest_len» ≤ 64
-  pub k-most : kMost r ≤ 67
-  -- C, S and K's body together: the room's 3,330 and 48
-  pub all-most : r .c .len + r .s .len + kMost r ≤ 3378
-  -- a NIST point in methods 4 to 8, on either side
-  pub c-point : r .c .point ≡ leb 4 (r .number) && leb (r .number) 8
-  pub s-point : r .s .point ≡ r .c .point
-
 is-eq : (a b : Bool) → cond a b (cond b false true) ≡ true → a ≡ b
 is-eq true true e = refl
 is-eq true false e = sym e
 is-eq false true e = e
 is-eq false false e = refl
 
-pub sound : (n : ℕ) → 1 ≤ n → n ≤ 9 → Sound (rowOf n)
+pub sound : (n : ℕ) → 1 ≤ n → n ≤ methodLast → Sound (rowOf n)
 unfolding rows
 sound n h k = record {
   name-fits = leb-true _ _ (rule (λ r. leb (r .«name_len») (length (r .name))) refl n h k);
@@ -124,21 +102,24 @@ sound n h k = record {
   x-most = leb-true _ _ (rule (λ r. leb (r .«x_len») 66) refl n h k);
   digest-least = leb-true _ _ (rule (λ r. leb 32 (r .«digest_len»)) refl n h k);
   digest-most = leb-true _ _ (rule (λ r. leb (r .«digest_len») 64) refl n h k);
-  k-most = leb-true _ _ (rule (λ r. leb (kMost r) 67) refl n h k);
-  all-most = leb-true _ _ (rule (λ r. leb (r .c .len + r .s .len + kMost r) 3378) refl n h k);
+  k-most = leb-true _ _ (rule (λ r. leb (4 + kMost r) kSize) refl n h k);
+  all-most = leb-true _ _ (rule (λ r. leb (32 + 2 * versionMost + 2 * kexinitMost + blobMost + r .c .len + r .s .len + kMost r) roomLeast) refl n h k);
   c-point = is-eq _ _ (rule (λ r. cond (r .c .point) (leb 4 (r .number) && leb (r .number) 8) (cond (leb 4 (r .number) && leb (r .number) 8) false true)) refl n h k);
   s-point = is-eq _ _ (rule (λ r. cond (r .s .point) (r .c .point) (cond (r .c .point) false true)) refl n h k);
+  c-parts = eqb-true _ _ (rule (λ r. eqb (r .c .len) (r .c .classical + cond (r .c .point) (1 + 2 * r .«x_len») (r .«x_len»))) refl n h k);
+  s-parts = eqb-true _ _ (rule (λ r. eqb (r .s .len) (r .s .classical + cond (r .s .point) (1 + 2 * r .«x_len») (r .«x_len»))) refl n h k);
+  k-hybrid = is-eq _ _ (rule (λ r. cond (hybrid (r .«k_form»)) (leb 7 (r .number)) (cond (leb 7 (r .number)) false true)) refl n h k);
 }
 
 -- ---- numberOf
 
 -- each method is found again by its name: no two names are the same
-pub number-name : (n : ℕ) → 1 ≤ n → n ≤ 9 → numberOf (nameOf (rowOf n)) ≡ n
+pub number-name : (n : ℕ) → 1 ≤ n → n ≤ methodLast → numberOf (nameOf (rowOf n)) ≡ n
 unfolding rows numberOf
 number-name n h k = eqb-true _ _ (rule (λ r. eqb (named (nameOf r) rows) (r .number)) refl n h k) ∙ row-number n h k
 
 -- the rows from a method's on: its own name, or one of those after it
-pub named-at : (name : List ℕ) (n : ℕ) → 1 ≤ n → n ≤ 9
+pub named-at : (name : List ℕ) (n : ℕ) → 1 ≤ n → n ≤ methodLast
     → named name (drop (n - 1) rows) ≡ cond (same name (nameOf (rowOf n))) n (named name (drop (n + 1 - 1) rows))
 named-at name n h k =
     let l : n - 1 < length rows = omega (arith, length-rows) in

@@ -1,3 +1,4 @@
 pub mod Ascii
 pub mod Rows
 pub mod Form
+pub mod Sound

@@ -49,14 +49,19 @@ abbrev pub nameOf : Method → List ℕ
 nameOf r = take (r .«name_len») (r .name)
 
 -- the row with this number among some rows
-abbrev pub numbered : ℕ → List Method → Method
-numbered n [] = noRow
-numbered n (r ∷ rs) = cond (eqb n (r .number)) r (numbered n rs)
+abbrev pub rowIn : ℕ → List Method → Method
+rowIn n [] = noRow
+rowIn n (r ∷ rs) = cond (eqb n (r .number)) r (rowIn n rs)
 
 -- the number of the row with this name among some rows, 0 with none
 abbrev pub named : List ℕ → List Method → ℕ
 named name [] = 0
 named name (r ∷ rs) = cond (same name (nameOf r)) (r .number) (named name rs)
+
+-- a hybrid's K is a digest
+abbrev pub hybrid : KForm → Bool
+hybrid Mpint = false
+hybrid Digest = true
 
 -- the most bytes that K's body can have: X as a number and a zero byte ahead of it, or the digest
 abbrev pub mostBy : KForm → ℕ → ℕ → ℕ
@@ -68,7 +73,7 @@ kMost r = mostBy (r .«k_form») (r .«x_len») (r .«digest_len»)
 
 -- the row of a method number, 1 to 9
 unfoldable pub rowOf : ℕ → Method
-rowOf n = numbered n rows
+rowOf n = rowIn n rows
 
 -- the number of a method's name
 unfoldable pub numberOf : List ℕ → ℕ

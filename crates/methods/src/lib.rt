@@ -2,7 +2,7 @@
 use wire::Part;
 ghost use mathlib.Core.Path.{_≡_};
 ghost use Prim.Native.Nat.{_+_};
-ghost use Rattle.methods.specs.Rows.{rowOf, numberOf};
+ghost use Rattle.methods.specs.Rows.{hybrid, rowOf, numberOf};
 ghost use Rattle.methods.specs.Form.{lengthFits, leadFits, formed};
 
 // How K stands in the hash input: X as an mpint, or a hybrid's digest as a string.
@@ -220,7 +220,7 @@ pub fn number_of(name: &[u8]) -> u8
     ensures { λ r. ⌜ r ≡ numberOf (now (name .entry)) ⌝ }
 {
     let mut n: u8 = 1;
-    while n <= 9 {
+    while n <= limits::METHOD_LAST {
         let m = method_of(n);
         let bytes = m.name;
         let len = m.name_len;
@@ -230,6 +230,16 @@ pub fn number_of(name: &[u8]) -> u8
         n += 1;
     }
     0
+}
+
+// Whether K is a digest, as in the hybrids.
+pub fn is_hybrid(form: KForm) -> bool
+    ensures { λ r. ⌜ r ≡ hybrid form ⌝ }
+{
+    match form {
+        KForm::Mpint => false,
+        KForm::Digest => true,
+    }
 }
 
 // Whether a public value of this shape may have n bytes.

@@ -1,18 +1,18 @@
 -- Laws of `specs/Mpint.antt`. Assumes nothing.
-use Prim.Native.Nat.{ℕ, zero, suc, _+_, _≤_, _<_}
-use mathlib.Core.Path.{_≡_, refl, sym, ap, _∙_}
+use Prim.Native.Nat.{ℕ, _+_, _≤_, _<_}
+use mathlib.Core.Path.{_≡_, refl, ap, _∙_}
 use mathlib.Core.List.{List, [], _∷_}
 use mathlib.Core.Bool.{Bool, true, false, cond, false≢true}
 use native.Mathlib.Omega.{arith}
 use lib.ListN.{length, getD, drop, length-drop}
 use lib.Seq.{drop-drop}
 use lib.Dec.{ltb, leb, eqb}
-use lib.IntN.{ℤ, pos, negsuc}
+use lib.IntN.{pos, negsuc}
 use Rattle.buffers.specs.Bytes.{Bytes}
 use Rattle.wire.specs.Strings.{whole, readString}
 use Rattle.buffers.proofs.ByteLaws.{bytes-tail}
 use Rattle.wire.proofs.StringLaws.{read-within}
-use Rattle.mpint.specs.Mpint.{excess, shortest, signOf, bodyOf, refusal, readMpint}
+use Rattle.mpint.specs.Mpint.{excess, shortest, signOf, bodyOf, mpintRefused, readMpint}
 use Rattle.mpint.specs.declared.MpintRead.{MpintRead}
 
 -- ---- excess
@@ -90,11 +90,11 @@ shortest-bytes (a ∷ r) h = by-test (excess (a ∷ r)) (shortest-bytes r (bytes
 -- ---- readMpint
 
 module _ (s : List ℕ) where
-  pub mpint-cut : whole s ≡ false → refusal 12 ≡ readMpint s
+  pub mpint-cut : whole s ≡ false → mpintRefused 12 ≡ readMpint s
   unfolding readMpint
   mpint-cut w = rw w
 
-  pub mpint-long : whole s ≡ true → excess (bodyOf s) ≡ true → refusal 22 ≡ readMpint s
+  pub mpint-long : whole s ≡ true → excess (bodyOf s) ≡ true → mpintRefused 22 ≡ readMpint s
   unfolding readMpint
   mpint-long w x = rw (w, x)
 
@@ -103,13 +103,25 @@ module _ (s : List ℕ) where
   unfolding readMpint
   mpint-found w x = rw (w, x)
 
+  -- what is known of an input by the number 0
+  pub mpint-zero : readMpint s .number ≡ 0 → (whole s ≡ true) × (excess (bodyOf s) ≡ false)
+  unfolding readMpint
+  mpint-zero z = by-test (whole s) (excess (bodyOf s)) z
+    where
+      by-test : (t u : Bool)
+          → (cond t (cond u (mpintRefused 22) (record { number = 0; sign = signOf (bodyOf s); body = readString s .body; rest = readString s .rest })) (mpintRefused 12)) .number ≡ 0
+          → (t ≡ true) × (u ≡ false)
+      by-test true true e = let w : ⊥ = omega arith in absurd w
+      by-test true false e = (refl, refl)
+      by-test false u e = let w : ⊥ = omega arith in absurd w
+
   -- both parts lie within the input, a refusal's too
   pub mpint-within : (readMpint s .body .start + readMpint s .body .len ≤ length s) × (readMpint s .rest .start + readMpint s .rest .len ≤ length s)
   unfolding readMpint
   mpint-within = by-test (whole s) (excess (bodyOf s)) (read-within s)
     where
       read : Bool → Bool → MpintRead
-      read t u = cond t (cond u (refusal 22) (record { number = 0; sign = signOf (bodyOf s); body = readString s .body; rest = readString s .rest })) (refusal 12)
+      read t u = cond t (cond u (mpintRefused 22) (record { number = 0; sign = signOf (bodyOf s); body = readString s .body; rest = readString s .rest })) (mpintRefused 12)
 
       by-test : (t u : Bool)
           → (readString s .body .start + readString s .body .len ≤ length s) × (readString s .rest .start + readString s .rest .len ≤ length s)

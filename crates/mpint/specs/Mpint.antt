@@ -34,14 +34,14 @@ abbrev pub bodyOf : List ℕ → List ℕ
 bodyOf s = bytesAt s (readString s .body)
 
 -- a refusal: no sign, and empty parts
-abbrev pub refusal : ℕ → MpintRead
-refusal n = record { number = n; sign = pos 0; body = nothing; rest = nothing }
+abbrev pub mpintRefused : ℕ → MpintRead
+mpintRefused n = record { number = n; sign = pos 0; body = nothing; rest = nothing }
 
 -- the mpint at the front: 12 where it passes the end, then 22 where its body could be shorter
 unfoldable pub readMpint : List ℕ → MpintRead
 readMpint s =
     cond (whole s)
     (cond (excess (bodyOf s))
-    (refusal 22)
+    (mpintRefused 22)
     (record { number = 0; sign = signOf (bodyOf s); body = readString s .body; rest = readString s .rest }))
-    (refusal 12)
+    (mpintRefused 12)

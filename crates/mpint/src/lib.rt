@@ -1,13 +1,12 @@
 // The SSH mpint (RFC 4251, section 5): a string whose body is the shortest two's complement, the highest byte first.
 use wire::Part;
-use wire::Written;
+use writers::Written;
 ghost use mathlib.Core.Path.{_≡_};
 ghost use Prim.Native.Nat.{_≤_};
 ghost use lib.ListN.{length, drop};
 ghost use denote.Ref.{ptr};
 ghost use Rattle.wire.specs.Parts.{bytesAt, placeAt};
-ghost use Rattle.wire.specs.Strings.{stringCause};
-ghost use Rattle.wire.specs.Writers.{wrote, leaves};
+ghost use Rattle.writers.specs.Writers.{wrote, leaves, stringCause};
 ghost use Rattle.mpint.specs.Mpint.{excess, shortest, signOf, readMpint, mpint};
 
 // The mpint at the front of an input: 0 with its sign, its body and what follows it, or 12 or 22.
@@ -116,5 +115,5 @@ pub fn write_mpint(out: &mut [u8], bytes: &[u8]) -> Written
     ensures { λ r. ⌜ (r ≡ wrote (stringCause (length (now (out .entry))) (shortest (now (bytes .entry)))) (mpint (now (bytes .entry)))) × (now (out .exit) ≡ leaves (stringCause (length (now (out .entry))) (shortest (now (bytes .entry)))) (mpint (now (bytes .entry))) (now (out .entry))) ⌝ }
 {
     let k = spare(bytes);
-    wire::write_string(out, &bytes[k..])
+    writers::write_string(out, &bytes[k..])
 }

@@ -4,15 +4,16 @@ use mathlib.Core.Path.{_≡_, refl, sym, ap, _∙_}
 use mathlib.Core.List.{List, [], _∷_, _++_}
 use mathlib.Core.Bool.{Bool, true, false, cond, _&&_, false≢true}
 use native.Mathlib.Omega.{arith}
-use lib.ListN.{length, getD, take, drop, length-drop}
+use lib.ListN.{length, take, drop, length-drop}
 use lib.Seq.{take-add, take-take, take-all, length-take-le, drop-at, drop-drop}
 use lib.Dec.{leb, ltb, eqb}
 use borrow.Author.Tests.{le-leb, lt-leb, leb-true, ltb-true, ltb-false, eqb-true, eqb-false}
 use Rattle.wire.specs.Parts.{part, nothing, bytesAt}
 use Rattle.wire.specs.declared.Part.{Part}
-use Rattle.wire.proofs.StringLaws.{and-true}
-use Rattle.names.specs.Names.{every, goodName, goodList, firstName, laterNames, parted, namesOf, upToBad}
-use Rattle.names.specs.Cursor.{done, cursorOf, ahead, yield, nextName, badName, namesCause}
+use Rattle.limits.proofs.BoolLaws.{and-true}
+use Rattle.limits.specs.Every.{every}
+use Rattle.names.specs.Names.{goodName, goodList, firstName, laterNames, parted, namesOf, upToBad}
+use Rattle.names.specs.Cursor.{exhausted, cursorOf, ahead, yield, nextName, badName, namesCause}
 use Rattle.names.specs.declared.Cursor.{Cursor}
 use Rattle.names.specs.declared.Next.{Next}
 use Rattle.names.proofs.NameLaws.{first-within, take-first, later-some, later-none, names-some}
@@ -199,10 +200,10 @@ some m (suc n) z e = omega arith
 pub ahead-list : (s : List ℕ) (p : Part) → p .start + p .len ≤ length s → ahead s (cursorOf p) ≡ namesOf (bytesAt s p)
 ahead-list s p h = by-test (eqb (p .len) 0) refl
   where
-    by-test : (t : Bool) → eqb (p .len) 0 ≡ t → ahead s (cond t done (record { at = p .start; end = p .start + p .len })) ≡ namesOf (bytesAt s p)
+    by-test : (t : Bool) → eqb (p .len) 0 ≡ t → ahead s (cond t exhausted (record { at = p .start; end = p .start + p .len })) ≡ namesOf (bytesAt s p)
     by-test true e =
         let z = eqb-true (p .len) 0 e in
-        ahead-end s done (omega arith) ∙ ap (λ (n : ℕ). namesOf (take n (drop (p .start) s))) (sym z)
+        ahead-end s exhausted (omega arith) ∙ ap (λ (n : ℕ). namesOf (take n (drop (p .start) s))) (sym z)
     by-test false e =
         let n = length-take-le (p .len) (drop (p .start) s) (omega (arith, length-drop (p .start) s)) in
         let z : p .len ≡ 0 → ⊥ = eqb-false (p .len) 0 e in

@@ -1,3 +1,4 @@
 pub mod NameLaws
 pub mod CursorLaws
-pub mod Run
+pub mod RunLaws
+pub mod JoinLaws

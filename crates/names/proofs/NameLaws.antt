@@ -1,16 +1,18 @@
 -- Laws of `specs/Names.antt`. Assumes nothing.
-use Prim.Native.Nat.{ℕ, zero, suc, _+_, _-_, _≤_, _<_}
-use mathlib.Core.Path.{_≡_, refl, sym, ap, _∙_}
+use Prim.Native.Nat.{ℕ, suc, _+_, _-_, _≤_, _<_}
+use mathlib.Core.Path.{_≡_, refl, ap, _∙_}
 use mathlib.Core.List.{List, [], _∷_}
-use mathlib.Core.Bool.{Bool, true, false, cond, not, _&&_}
+use mathlib.Core.Bool.{Bool, true, false, cond, _&&_}
 use native.Mathlib.Omega.{arith}
 use native.Mathlib.Numerals.{add-one}
 use lib.ListN.{length, getD, take, drop}
 use lib.Seq.{drop-cons}
 use lib.Dec.{leb, eqb}
-use borrow.Author.Tests.{le-leb, lt-leb, eq-eqb, ne-eqb}
-use Rattle.wire.proofs.StringLaws.{and-true}
-use Rattle.names.specs.Names.{nameByte, every, goodName, firstName, laterNames, parted, namesOf, upToBad}
+use borrow.Author.Tests.{le-leb, lt-leb, ne-eqb}
+use Rattle.limits.specs.Limits.{nameMost}
+use Rattle.limits.proofs.BoolLaws.{and-true, and-false}
+use Rattle.limits.specs.Every.{every}
+use Rattle.names.specs.Names.{nameByte, goodName, firstName, laterNames, parted, namesOf, upToBad}
 
 -- ---- the text of a payload from one place to another
 
@@ -29,10 +31,6 @@ pub every-at : (f : ℕ → Bool) (s : List ℕ) (i : ℕ) → i < length s → 
 every-at f s i h = rw (drop-cons s i 0 h, add-one)
 
 -- ---- nameByte
-
-and-false : (t : Bool) → t && false ≡ false
-and-false true = refl
-and-false false = refl
 
 pub byte-low : (b : ℕ) → b < 33 → nameByte b ≡ false
 byte-low b h = rw (lt-leb 33 b h)
@@ -53,13 +51,13 @@ module _ (n : List ℕ) where
   unfolding goodName
   good-empty h = rw (lt-leb 1 (length n) h)
 
-  pub good-long : 64 < length n → false ≡ goodName n
+  pub good-long : nameMost < length n → false ≡ goodName n
   unfolding goodName
-  good-long h = rw (lt-leb (length n) 64 h, and-false (leb 1 (length n)))
+  good-long h = rw (lt-leb (length n) nameMost h, and-false (leb 1 (length n)))
 
-  pub good-bytes : 1 ≤ length n → length n ≤ 64 → every nameByte n ≡ goodName n
+  pub good-bytes : 1 ≤ length n → length n ≤ nameMost → every nameByte n ≡ goodName n
   unfolding goodName
-  good-bytes h k = rw (le-leb 1 (length n) h, le-leb (length n) 64 k)
+  good-bytes h k = rw (le-leb 1 (length n) h, le-leb (length n) nameMost k)
 
 -- ---- firstName
 

@@ -1,22 +1,23 @@
 -- A cursor over a list inside a payload: the names that it has ahead, and what it yields next. Assumes nothing.
 use Prim.Native.Nat.{ℕ, _+_, _-_}
 use mathlib.Core.List.{List, [], _∷_}
-use mathlib.Core.Bool.{Bool, true, false, cond, _&&_}
+use mathlib.Core.Bool.{true, false, cond, _&&_}
 use lib.ListN.{length, take, drop}
 use lib.Dec.{leb, eqb}
+use Rattle.limits.specs.Every.{every}
 use Rattle.wire.specs.Parts.{part, nothing}
 use Rattle.wire.specs.declared.Part.{Part}
-use Rattle.names.specs.Names.{goodName, every, parted}
+use Rattle.names.specs.Names.{goodName, parted}
 use Rattle.names.specs.declared.Cursor.{Cursor}
 use Rattle.names.specs.declared.Next.{Next}
 
 -- a cursor that has nothing ahead
-abbrev pub done : Cursor
-done = record { at = 1; end = 0 }
+abbrev pub exhausted : Cursor
+exhausted = record { at = 1; end = 0 }
 
 -- the cursor at the beginning of the list that stands at a place
 abbrev pub cursorOf : Part → Cursor
-cursorOf p = cond (eqb (p .len) 0) done (record { at = p .start; end = p .start + p .len })
+cursorOf p = cond (eqb (p .len) 0) exhausted (record { at = p .start; end = p .start + p .len })
 
 -- the names that a cursor has ahead: none behind the last, nor where its list passes the payload's end
 unfoldable pub ahead : List ℕ → Cursor → List (List ℕ)

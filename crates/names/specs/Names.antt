@@ -1,23 +1,21 @@
 -- A name-list as a list of names (RFC 4251, section 5): empty, or names parted by single commas. Stricter than the RFC, as document 01
 -- says: a name has at most 64 bytes. Assumes nothing.
 use Prim.Native.Nat.{ℕ}
-use mathlib.Core.List.{List, [], _∷_}
-use mathlib.Core.Bool.{Bool, true, cond, not, _&&_}
+use mathlib.Core.List.{List, [], _∷_, _++_}
+use mathlib.Core.Bool.{Bool, cond, not, _&&_}
 use lib.ListN.{length}
-use lib.Dec.{leb, eqb}
+use lib.Dec.{eqb}
+use Rattle.limits.specs.Limits.{nameMost}
+use Rattle.limits.specs.Range.{within}
+use Rattle.limits.specs.Every.{every}
 
 -- a byte of a name: 33 to 126, no comma
 abbrev pub nameByte : ℕ → Bool
-nameByte b = leb 33 b && leb b 126 && not (eqb b 44)
-
--- the test holds of every element
-abbrev pub every : {A : Type 0} → (A → Bool) → List A → Bool
-every f [] = true
-every f (a ∷ l) = f a && every f l
+nameByte b = within 33 126 b && not (eqb b 44)
 
 -- a name: 1 to 64 such bytes
 unfoldable pub goodName : List ℕ → Bool
-goodName n = leb 1 (length n) && leb (length n) 64 && every nameByte n
+goodName n = within 1 nameMost (length n) && every nameByte n
 
 -- what stands ahead of the first comma
 abbrev pub firstName : List ℕ → List ℕ
@@ -37,6 +35,12 @@ parted l = firstName l ∷ laterNames l
 abbrev pub namesOf : List ℕ → List (List ℕ)
 namesOf [] = []
 namesOf (b ∷ l) = parted (b ∷ l)
+
+-- the list of some names: a comma between two
+abbrev pub joined : List (List ℕ) → List ℕ
+joined [] = []
+joined (n ∷ []) = n
+joined (n ∷ m ∷ ns) = n ++ 44 ∷ joined (m ∷ ns)
 
 -- a list whose names are all good
 abbrev pub goodList : List ℕ → Bool

@@ -31,7 +31,7 @@ pub fn good_name(s: &[u8]) -> bool
     if s.len() < 1 {
         return false;
     }
-    if 64 < s.len() {
+    if limits::NAME_MOST < s.len() {
         return false;
     }
     let mut i = 0;

@@ -6,24 +6,12 @@ use native.Mathlib.Omega.{arith}
 use lib.ListN.{length}
 use Rattle.wire.specs.Parts.{nothing}
 use Rattle.wire.specs.declared.Part.{Part}
+use Rattle.wire.proofs.StringsLaws.{part-within}
 use Rattle.messages.specs.Messages.{fieldPart}
-use Rattle.exchange.specs.Causes.{initCause, replyCause}
-use Rattle.exchange.specs.Steps.{Call, init, reply, Kind, accepted, refused, fault, kind, byKind, numbered, fedCause, number, stepPart}
+use Rattle.exchange.specs.Numbers.{Kind, accepted, refused, fault, kind, byKind}
+use Rattle.exchange.specs.Steps.{Call, number, stepPart}
 use Rattle.exchange.specs.declared.Exchange.{Exchange}
-use Rattle.exchange.proofs.KindLaws.{kind-accepted}
-use Rattle.exchange.proofs.StepLaws.{kind-same}
-use Rattle.judge.proofs.JudgeLaws.{field-within}
-
-module _ (e : Exchange) (room p : List ℕ) (n fed : ℕ) where
-  -- the number that the code judges is the call's
-  pub init-number : fed ≡ initCause (e .method) p → n ≡ numbered 2 e (length room) fed → n ≡ number e room (init p)
-  unfolding number fedCause
-  init-number f g = g ∙ ap (numbered 2 e (length room)) f
-
-  -- likewise
-  pub reply-number : fed ≡ replyCause (e .method) p → n ≡ numbered 3 e (length room) fed → n ≡ number e room (reply p)
-  unfolding number fedCause
-  reply-number f g = g ∙ ap (numbered 3 e (length room)) f
+use Rattle.exchange.proofs.KindLaws.{kind-accepted, kind-same}
 
 module _ (e : Exchange) (room : List ℕ) (q : Call) (p : List ℕ) (i n : ℕ) (f : n ≡ number e room q) where
   -- nothing of a message that is refused
@@ -37,11 +25,11 @@ module _ (e : Exchange) (room : List ℕ) (q : Call) (p : List ℕ) (i n : ℕ) 
   part-accepted h r g = g ∙ ap (λ (t : Kind). byKind t (fieldPart p i) nothing nothing) (sym (kind-accepted (number e room q) (sym f ∙ h)))
 
 -- accepted or not, the part lies within the payload
-pub part-within : (e : Exchange) (room : List ℕ) (q : Call) (p : List ℕ) (i : ℕ) → stepPart e room q p i .start + stepPart e room q p i .len ≤ length p
+pub step-part-within : (e : Exchange) (room : List ℕ) (q : Call) (p : List ℕ) (i : ℕ) → stepPart e room q p i .start + stepPart e room q p i .len ≤ length p
 unfolding stepPart
-part-within e room q p i = by-kind (kind (number e room q))
+step-part-within e room q p i = by-kind (kind (number e room q))
   where
     by-kind : (t : Kind) → byKind t (fieldPart p i) nothing nothing .start + byKind t (fieldPart p i) nothing nothing .len ≤ length p
-    by-kind accepted = field-within p i
+    by-kind accepted = part-within p 1 i
     by-kind refused = omega arith
     by-kind fault = omega arith

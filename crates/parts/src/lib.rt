@@ -11,24 +11,24 @@ ghost use Rattle.exchange.specs.Steps.{init, reply, stepPart};
 pub fn init_part(e: Exchange, room: &[u8], payload: &[u8], i: usize) -> Part
     ensures { λ r. ⌜ r ≡ stepPart e (now (room .entry)) (init (now (payload .entry))) (now (payload .entry)) i ⌝ }
 {
-    let fed = judge::init_cause(e.method, payload);
-    let n = judge::step_number(2, e, room.len(), fed);
+    let fed = judge_peer::init_cause(e.method, payload);
+    let n = due::step_number(2, e, room.len(), fed);
     if n != 0 {
         return Part { start: 0, len: 0 };
     }
-    messages::field_part(payload, i)
+    wire::string_part(payload, 1, i)
 }
 
 // The place of string i of a REPLY that the step would accept; the empty part for every refusal.
 pub fn reply_part(e: Exchange, room: &[u8], payload: &[u8], i: usize) -> Part
     ensures { λ r. ⌜ r ≡ stepPart e (now (room .entry)) (reply (now (payload .entry))) (now (payload .entry)) i ⌝ }
 {
-    let fed = judge::reply_cause(e.method, payload);
-    let n = judge::step_number(3, e, room.len(), fed);
+    let fed = judge_peer::reply_cause(e.method, payload);
+    let n = due::step_number(3, e, room.len(), fed);
     if n != 0 {
         return Part { start: 0, len: 0 };
     }
-    messages::field_part(payload, i)
+    wire::string_part(payload, 1, i)
 }
 
 // C of an INIT that the step would accept on this exchange and room, as a part of the payload; empty for every refusal. No step: nothing

@@ -7,10 +7,10 @@ use native.Mathlib.Omega.{arith}
 use lib.Dec.{eqb}
 use borrow.Author.Tests.{ne-eqb, le-leb, lt-leb}
 use Rattle.wire.proofs.CauseLaws.{unless-fails}
-use Rattle.methods.specs.Rows.{rowOf}
+use Rattle.methods.specs.Rows.{hybrid, rowOf}
 use Rattle.methods.specs.declared.KForm.{KForm}
 use Rattle.methods.specs.declared.KForm.the-variants.{Mpint, Digest}
-use Rattle.exchange.specs.Causes.{hybrid, present, kemOk, xOk, secretCause}
+use Rattle.exchange.specs.Causes.{present, kemOk, restOk, xOk, secretCause}
 use Rattle.exchange.specs.declared.Classical.{Classical}
 use Rattle.exchange.specs.declared.Kem.{Kem}
 use Rattle.exchange.specs.declared.Stage.{Stage}
@@ -19,8 +19,6 @@ use Rattle.exchange.specs.declared.Exchange.{Exchange}
 use Rattle.exchange.specs.declared.Step.{Step}
 use Rattle.records.specs.Record.{stageNumber, failNumber, stageOf, closedOf, fitsOf, openedOf, stepAnswer, wrongBy, kemOf}
 use Rattle.records.specs.declared.Record.{Record}
-use Rattle.records.specs.declared.Taken.{Taken}
-use Rattle.records.specs.declared.Answer.{Answer}
 
 -- no other stage: the exchange failed
 pub stage-failed : (s f : ℕ) → ¬ (s ≡ 0) → ¬ (s ≡ 1) → ¬ (s ≡ 2) → ¬ (s ≡ 3) → ¬ (s ≡ 4) → ¬ (s ≡ 5) → Failed f ≡ stageOf s f
@@ -67,7 +65,7 @@ form-wrong Mpint = refl
 form-wrong Digest = refl
 
 -- it is not the method's presence
-pub kem-wrong : (m n : ℕ) → 2 < n → kemOk m (kemOf m n) ≡ false
+pub kem-wrong : (m n : ℕ) → 2 < n → kemOk (rowOf m) (kemOf m n) ≡ false
 unfolding kemOf
 kem-wrong m n h =
     rw (ne-eqb n 0 (λ (e : n ≡ 0). omega arith), ne-eqb n 1 (λ (e : n ≡ 1). omega arith), ne-eqb n 2 (λ (e : n ≡ 2). omega arith))
@@ -75,9 +73,9 @@ kem-wrong m n h =
 
 -- so that the secret's cause is 4 with it
 pub kem-four : (role m n : ℕ) (cl : Classical) (x d ks s : List ℕ) → 2 < n → secretCause role m cl x (kemOf m n) d ks s ≡ 4
-unfolding secretCause
-kem-four role m n cl x d ks s h = unless-fails _ 4 _ (second (xOk m cl x) (kemOk m (kemOf m n)) _ _ (kem-wrong m n h))
+unfolding secretCause restOk
+kem-four role m n cl x d ks s h = unless-fails _ 4 _ (second (xOk (rowOf m) cl x) (kemOk (rowOf m) (kemOf m n)) _ _ (kem-wrong m n h))
   where
-    second : (a b c d : Bool) → b ≡ false → a && b && c && d ≡ false
+    second : (a b c d : Bool) → b ≡ false → a && (b && c && d) ≡ false
     second true b c d e = rw e
     second false b c d e = refl

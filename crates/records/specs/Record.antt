@@ -1,6 +1,6 @@
 -- The exchange as a record of numbers, and what the exports answer by it. Assumes nothing.
 use Prim.Native.Nat.{ℕ}
-use mathlib.Core.Bool.{Bool, true, false, cond, _&&_, _||_}
+use mathlib.Core.Bool.{Bool, cond, _&&_, _||_}
 use lib.Dec.{leb, eqb}
 use Rattle.methods.specs.Rows.{rowOf}
 use Rattle.methods.specs.declared.KForm.{KForm}
@@ -73,8 +73,8 @@ openedOf r = record {
 abbrev pub stepAnswer : Step → Answer
 stepAnswer s = record { number = s .number; count = s .count; second = s .second; «record» = closedOf (s .exchange) }
 
-abbrev pub refusal : Record → Answer
-refusal r = record { number = 1; count = 0; second = 0; «record» = r }
+abbrev pub notAnExchange : Record → Answer
+notAnExchange r = record { number = 1; count = 0; second = 0; «record» = r }
 
 -- ---- the primitives' outcomes as numbers
 

@@ -8,7 +8,7 @@ use exchange::Stage;
 use exchange::Step;
 use methods::KForm;
 ghost use mathlib.Core.Path.{_≡_};
-ghost use Rattle.records.specs.Record.{stageNumber, failNumber, stageOf, fitsOf, closedOf, openedOf, stepAnswer, refusal, classicalOf, wrongBy, kemOf};
+ghost use Rattle.records.specs.Record.{stageNumber, failNumber, stageOf, fitsOf, closedOf, openedOf, stepAnswer, notAnExchange, classicalOf, wrongBy, kemOf};
 
 // An exchange as numbers. Stage: 0 started, 1 own C sent, 2 INIT read, 3 REPLY read, 4 secret done, 5 complete, 6 failed; fail is the
 // number that ended it, 0 unless failed.
@@ -19,7 +19,7 @@ pub struct Record {
     pub role: u8,
     pub method: u8,
     pub lens: Lengths,
-    pub k: [u8; 71],
+    pub k: [u8; limits::K_SIZE],
 }
 
 // What the start and a step answer.
@@ -145,7 +145,7 @@ pub fn answer_of(s: Step) -> Answer
 
 // The answer to a record that no exchange has.
 pub fn refuse(r: Record) -> Answer
-    ensures { λ a. ⌜ a ≡ refusal r ⌝ }
+    ensures { λ a. ⌜ a ≡ notAnExchange r ⌝ }
 {
     let record = r;
     Answer {

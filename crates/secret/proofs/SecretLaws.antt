@@ -6,20 +6,27 @@ use mathlib.Core.Bool.{Bool, true, false, cond}
 use native.Mathlib.Omega.{arith}
 use native.Mathlib.Nat.{zero-add}
 use native.Mathlib.Numerals.{add-one}
-use lib.ListN.{length, getD, take, drop, replicate, length-drop, length-replicate, length-append, replicate-append-replicate, drop-of-length-le}
+use lib.ListN.{length, getD, drop, length-drop, length-replicate, length-append, replicate-append-replicate, drop-of-length-le}
 use lib.Seq.{drop-cons, drop-at}
 use lib.Dec.{ltb, eqb, eqb·suc-zero}
 use lib.IntN.{pos}
 use borrow.Author.Tests.{le-leb, lt-leb, ltb-true, ltb-false, eqb-false, lt-ltb, le-ltb, ne-eqb}
+use Rattle.limits.specs.Limits.{stringMost, kSize}
 use Rattle.buffers.specs.Bytes.{zeros, over, laid}
 use Rattle.wire.specs.Strings.{bytes32, string}
 use Rattle.buffers.proofs.ByteLaws.{over-over, laid-fits, length-over}
+use Rattle.wire.specs.declared.StringRead.{StringRead}
 use Rattle.wire.proofs.StringLaws.{length-string}
-use Rattle.mpint.specs.Mpint.{excess, shortest, mpint}
+use Rattle.wire.proofs.RoundTrip.{string-complete, body-string}
+use Rattle.mpint.specs.Mpint.{shortest}
 use Rattle.mpint.specs.Value.{value, unsigned}
 use Rattle.mpint.proofs.MpintLaws.{shortest-done}
+use Rattle.mpint.specs.declared.MpintRead.{MpintRead}
+use Rattle.mpint.proofs.RoundTrip.{mpint-complete, value-mpint}
 use Rattle.mpint.proofs.ValueLaws.{value-shortest, value-unsigned}
-use Rattle.secret.specs.Secret.{kSize, kept, leadingZeros}
+use Rattle.methods.specs.declared.KForm.{KForm}
+use Rattle.methods.specs.declared.KForm.the-variants.{Mpint, Digest}
+use Rattle.secret.specs.Secret.{ReadsAs, kBytes, kept, leadingZeros}
 use Rattle.secret.specs.declared.Secret.{Secret}
 
 -- ---- leadingZeros
@@ -103,6 +110,15 @@ k-some x e = by-test (ltb (getD x k 0) 128) refl
 pub k-number : (x : List ℕ) → value (shortest (0 ∷ x)) ≡ pos (unsigned x)
 k-number x = value-shortest (0 ∷ x) ∙ value-unsigned x
 
+-- demand 2 for K: its bytes, with anything after them, are read with 0, and as X's number or as the digest
+pub k-read : (f : KForm) (x d t : List ℕ) → length (kBytes f x d) ≤ stringMost → ReadsAs f (kBytes f x d ++ t) x d
+k-read Mpint x d t h =
+    let n : length (shortest (0 ∷ x)) ≤ stringMost = omega (arith, length-string (shortest (0 ∷ x))) in
+    (ap (λ (r : MpintRead). r .number) (mpint-complete (0 ∷ x) t n), value-mpint (0 ∷ x) t n ∙ value-unsigned x)
+k-read Digest x d t h =
+    let n : length d ≤ stringMost = omega (arith, length-string d) in
+    (ap (λ (r : StringRead). r .number) (string-complete d t n), body-string d t n)
+
 -- ---- kept
 
 pub drop-zeros : (n m : ℕ) → n ≤ m → drop n (zeros m) ≡ zeros (m - n)
@@ -138,7 +154,7 @@ over-pad b p h =
     ∙ sym (over-zeros (b ++ zeros p) (omega arith))
 
 -- length bytes, and digits behind some of the record's own zeros
-module _ (pad : ℕ) (d : List ℕ) (h : pad + length d ≤ 67) where
+module _ (pad : ℕ) (d : List ℕ) (h : pad + length d ≤ kSize - 4) where
   n : ℕ
   n = pad + length d
 
@@ -175,7 +191,7 @@ module _ (pad : ℕ) (d : List ℕ) (h : pad + length d ≤ 67) where
       let q = sym m in
       (λ i. record { number = 0; len = q i; bytes = o i }) ∙ kept-fits (string (zeros pad ++ d)) (omega arith)
 
-pub kept-no-digits : (pad : ℕ) (d : List ℕ) → 67 < pad + length d
+pub kept-no-digits : (pad : ℕ) (d : List ℕ) → kSize - 4 < pad + length d
     → _≡_ {A = Secret} (record { number = 4; len = 0; bytes = zeros kSize }) (kept (string (zeros pad ++ d)))
 kept-no-digits pad d h =
     let m = length-string (zeros pad ++ d) in

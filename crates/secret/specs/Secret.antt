@@ -1,12 +1,17 @@
 -- The shared secret K: its bytes in the hash input, and the K record. Assumes nothing.
 use Prim.Native.Nat.{ℕ, zero, suc, _-_}
+use mathlib.Core.Path.{_≡_}
 use mathlib.Core.List.{List, [], _∷_, _++_}
 use mathlib.Core.Bool.{cond}
 use lib.ListN.{length}
+use lib.IntN.{pos}
 use lib.Dec.{leb}
+use Rattle.limits.specs.Limits.{kSize}
 use Rattle.buffers.specs.Bytes.{zeros}
-use Rattle.wire.specs.Strings.{string}
-use Rattle.mpint.specs.Mpint.{mpint}
+use Rattle.wire.specs.Parts.{bytesAt}
+use Rattle.wire.specs.Strings.{string, readString}
+use Rattle.mpint.specs.Mpint.{mpint, readMpint}
+use Rattle.mpint.specs.Value.{value, unsigned}
 use Rattle.methods.specs.declared.KForm.{KForm}
 use Rattle.methods.specs.declared.KForm.the-variants.{Mpint, Digest}
 use Rattle.secret.specs.declared.Secret.{Secret}
@@ -17,9 +22,10 @@ abbrev pub kBytes : KForm → List ℕ → List ℕ → List ℕ
 kBytes Mpint x digest = mpint (0 ∷ x)
 kBytes Digest x digest = string digest
 
--- the K record's size
-abbrev pub kSize : ℕ
-kSize = 71
+-- a list that begins with K, read: 0, and X's number or the digest
+abbrev pub ReadsAs : KForm → List ℕ → List ℕ → List ℕ → Type 0
+ReadsAs Mpint out x digest = (readMpint out .number ≡ 0) × (value (bytesAt out (readMpint out .body)) ≡ pos (unsigned x))
+ReadsAs Digest out x digest = (readString out .number ≡ 0) × (bytesAt out (readString out .body) ≡ digest)
 
 -- the K record of K's bytes: filled from the start, zeros after their end; 4 and zeros where they do not fit it
 unfoldable pub kept : List ℕ → Secret

@@ -9,14 +9,11 @@ ghost use Rattle.wire.specs.Strings.{string};
 ghost use Rattle.mpint.specs.Mpint.{mpint};
 ghost use Rattle.secret.specs.Secret.{leadingZeros, kBytes, kept};
 
-// The size of the K record: four length bytes, and the longest K's 67.
-pub const K_SIZE: usize = 71;
-
 // 0 with K's length and the K record, zeros after K's end; or 4 and zeros, where K is longer than the record.
 pub struct Secret {
     pub number: u8,
     pub len: usize,
-    pub bytes: [u8; K_SIZE],
+    pub bytes: [u8; limits::K_SIZE],
 }
 
 // How many zero bytes stand in front.
@@ -38,16 +35,16 @@ fn keep(pad: usize, digits: &[u8]) -> Secret
     requires { ⌜ pad ≤ 1 ⌝ }
     ensures { λ r. ⌜ r ≡ kept (string (zeros pad ++ now (digits .entry))) ⌝ }
 {
-    let mut bytes = [0u8; K_SIZE];
+    let mut bytes = [0u8; limits::K_SIZE];
     let n = pad + digits.len();
-    if K_SIZE - 4 < n {
+    if limits::K_SIZE - 4 < n {
         return Secret {
             number: 4,
             len: 0,
             bytes,
         };
     }
-    wire::put_u32(&mut bytes, 0, n);
+    writers::put_u32(&mut bytes, 0, n);
     buffers::put_bytes(&mut bytes, 4 + pad, digits);
     Secret {
         number: 0,

@@ -1,4 +1,2 @@
-pub mod LeafLaws
-pub mod ReadLaws
+pub mod StartLaws
 pub mod SecretStepLaws
-pub mod SignLaws

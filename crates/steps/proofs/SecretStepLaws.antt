@@ -1,35 +1,36 @@
 -- What the secret step owes at its returns, and what it knows where it is accepted. Assumes nothing.
-use Prim.Native.Nat.{ℕ, _+_, _-_, _≤_}
+use Prim.Native.Nat.{ℕ, _+_, _≤_, _-_}
 use mathlib.Core.Path.{_≡_, refl, sym, ap, _∙_}
 use mathlib.Core.List.{List, _++_}
 use native.Mathlib.Omega.{arith}
-use lib.ListN.{length, take, drop, length-append, length-drop, length-replicate}
+use lib.ListN.{length, length-append, take, drop, length-drop, length-replicate}
 use lib.Seq.{length-take-le}
 use borrow.Author.Tests.{le-leb, eq-eqb, ne-eqb}
+use Rattle.limits.specs.Limits.{blobMost, kSize, roomLeast, server}
+use Rattle.limits.proofs.RangeLaws.{within-most}
 use Rattle.buffers.specs.Bytes.{zeros, onto, over, laid}
+use Rattle.buffers.proofs.ByteLaws.{length-over, over-over, laid-fits}
 use Rattle.wire.specs.Parts.{part, inside, bytesAt}
-use Rattle.buffers.proofs.ByteLaws.{laid-fits, over-over, length-over}
 use Rattle.wire.proofs.PartLaws.{inside-fits}
 use Rattle.methods.specs.Rows.{rowOf, kMost}
-use Rattle.methods.specs.declared.Method.{Method}
-use Rattle.methods.proofs.MethodLaws.{Sound}
 use Rattle.methods.proofs.FormLaws.{length-most}
-use Rattle.messages.proofs.MessageLaws.{within-most}
-use Rattle.secret.specs.Secret.{kSize, kBytes, kept}
+use Rattle.methods.specs.declared.Method.{Method}
+use Rattle.methods.specs.Sound.{Sound}
+use Rattle.secret.specs.Secret.{kBytes, kept}
 use Rattle.secret.specs.declared.Secret.{Secret}
 use Rattle.secret.proofs.SecretLaws.{kept-fits, drop-zeros}
-use Rattle.transcript.specs.Fields.{field, fieldLength, around}
+use Rattle.transcript.specs.Fields.{field, fieldLength, around, fieldSize}
 use Rattle.transcript.proofs.RoomLaws.{length-field, take-onto}
-use Rattle.exchange.specs.Causes.{roomLeast, secretCause, ownOk, kOf}
-use Rattle.exchange.specs.Steps.{secret, fedCause, numbered, number, headEnd, fieldsEnd, standingC, withS, at, kRecord, filled, taken, countOf, secondOf, roomAfter, answered, Small}
-use Rattle.exchange.specs.declared.Classical.{Classical}
-use Rattle.exchange.specs.declared.Kem.{Kem}
+use Rattle.exchange.specs.Causes.{secretCause, ownOk, kOf}
+use Rattle.exchange.specs.Steps.{stepNumber, fedCause, number, headEnd, fieldsEnd, standingC, filled, withS, taken, countOf, secondOf, answered, roomAfter, secret, kRecord, withStage, headSize, fieldsSize}
 use Rattle.exchange.specs.declared.Stage.the-variants.{SecretDone}
-use Rattle.exchange.specs.declared.Lengths.{Lengths}
 use Rattle.exchange.specs.declared.Exchange.{Exchange}
 use Rattle.exchange.specs.declared.Step.{Step}
-use Rattle.exchange.proofs.CauseFacts.{secret-known, own-sized, key-sized, method-row}
-use Rattle.exchange.proofs.StepLaws.{step-accepted, step-known, Bounded, bounded, small, all-most}
+use Rattle.exchange.proofs.CauseFacts.{method-row, secret-known, own-formed, key-sized}
+use Rattle.exchange.specs.declared.Lengths.{Lengths}
+use Rattle.exchange.proofs.StepLaws.{bounded, small, step-known, step-accepted, Bounded, all-most, size-fits, head-fits, fields-fits, Small}
+use Rattle.exchange.specs.declared.Classical.{Classical}
+use Rattle.exchange.specs.declared.Kem.{Kem}
 
 -- ---- K and its record
 
@@ -110,10 +111,10 @@ pub record ServerFits (e : Exchange) (x d ks s : List ℕ) : Type 0 where
 
 module _ (e : Exchange) (room : List ℕ) (cl : Classical) (x : List ℕ) (kem : Kem) (d ks s : List ℕ) where
   -- the number that the code asks for is the step's
-  pub secret-number : (fed n : ℕ) → fed ≡ secretCause (e .role) (e .method) cl x kem d ks s → n ≡ numbered 4 e (length room) fed
+  pub secret-number : (fed n : ℕ) → fed ≡ secretCause (e .role) (e .method) cl x kem d ks s → n ≡ stepNumber 4 e (length room) fed
       → n ≡ number e room (secret cl x kem d ks s)
   unfolding number fedCause
-  secret-number fed n f g = g ∙ ap (numbered 4 e (length room)) f
+  secret-number fed n f g = g ∙ ap (stepNumber 4 e (length room)) f
 
   cause-none : number e room (secret cl x kem d ks s) ≡ 0 → secretCause (e .role) (e .method) cl x kem d ks s ≡ 0
   unfolding fedCause
@@ -138,18 +139,18 @@ module _ (e : Exchange) (room : List ℕ) (cl : Classical) (x : List ℕ) (kem :
         }
 
     -- and so are the lengths with K_S and S
-    pub server-fits : e .role ≡ 2 → ServerFits e x d ks s
+    pub server-fits : e .role ≡ server → ServerFits e x d ks s
     server-fits h =
         let f = secret-fits in
-        let o = own-sized (e .method) ks s (ap (λ (r : ℕ). ownOk r (e .method) ks s) (sym h) ∙ secret-known (e .role) (e .method) cl x kem d ks s (cause-none z) .3) in
+        let o = own-formed (e .method) ks s (ap (λ (r : ℕ). ownOk r (rowOf (e .method)) ks s) (sym h) ∙ secret-known (e .role) (e .method) cl x kem d ks s (cause-none z) .3) in
         let b : Bounded (rowOf (e .method)) (withS (e .lens) (length ks) (length s)) = record {
           vc = f .bounds .vc;
           vs = f .bounds .vs;
           ic = f .bounds .ic;
           is = f .bounds .is;
-          ks = within-most 1 2048 (length ks) (o .0 .ok);
+          ks = within-most 1 blobMost (length ks) (o .0 .ok);
           c = f .bounds .c;
-          s = length-most (rowOf (e .method) .s) (length s) (o .1 .ok);
+          s = length-most (rowOf (e .method) .s) (length s) (o .1 .len);
         } in
         record {
           sums = small (rowOf (e .method)) (withS (e .lens) (length ks) (length s)) (f .row) b;
@@ -157,15 +158,15 @@ module _ (e : Exchange) (room : List ℕ) (cl : Classical) (x : List ℕ) (kem :
         }
 
     -- the exchange, the counts and the room of an accepted step, by the role
-    taken-client : (e .role ≡ 2 → ⊥) → at e SecretDone (e .lens) (kRecord (kOf (e .method) x d)) ≡ taken e (secret cl x kem d ks s)
+    taken-client : (e .role ≡ server → ⊥) → withStage e SecretDone (e .lens) (kRecord (kOf (e .method) x d)) ≡ taken e (secret cl x kem d ks s)
     unfolding taken
-    taken-client h = rw (ne-eqb (e .role) 2 h)
+    taken-client h = rw (ne-eqb (e .role) server h)
 
-    taken-server : e .role ≡ 2 → at e SecretDone (withS (e .lens) (length ks) (length s)) (kRecord (kOf (e .method) x d)) ≡ taken e (secret cl x kem d ks s)
+    taken-server : e .role ≡ server → withStage e SecretDone (withS (e .lens) (length ks) (length s)) (kRecord (kOf (e .method) x d)) ≡ taken e (secret cl x kem d ks s)
     unfolding taken
-    taken-server h = rw (eq-eqb (e .role) 2 h)
+    taken-server h = rw (eq-eqb (e .role) server h)
 
-    count-is : (l : Lengths) (k : List ℕ) → at e SecretDone l k ≡ taken e (secret cl x kem d ks s)
+    count-is : (l : Lengths) (k : List ℕ) → withStage e SecretDone l k ≡ taken e (secret cl x kem d ks s)
         → fieldsEnd l + length (kOf (e .method) x d) ≡ countOf e room (secret cl x kem d ks s)
     unfolding countOf
     count-is l k t = ap (λ (y : Exchange). fieldsEnd (y .lens) + length (kOf (e .method) x d)) t
@@ -174,30 +175,31 @@ module _ (e : Exchange) (room : List ℕ) (cl : Classical) (x : List ℕ) (kem :
     unfolding secondOf
     second-is = refl
 
-    answer : (l : Lengths) (end len : ℕ) (bytes : List ℕ) → at e SecretDone l (kRecord (kOf (e .method) x d)) ≡ taken e (secret cl x kem d ks s)
+    answer : (l : Lengths) (end len : ℕ) (bytes : List ℕ) → withStage e SecretDone l (kRecord (kOf (e .method) x d)) ≡ taken e (secret cl x kem d ks s)
         → end ≡ fieldsEnd l → len ≡ length (kOf (e .method) x d) → bytes ≡ kRecord (kOf (e .method) x d)
-        → _≡_ {A = Step} (record { number = 0; count = end + len; second = 0; exchange = at e SecretDone l bytes }) (answered e room (secret cl x kem d ks s))
+        → _≡_ {A = Step} (record { number = 0; count = end + len; second = 0; exchange = withStage e SecretDone l bytes }) (answered e room (secret cl x kem d ks s))
     answer l end len bytes t f g b =
         let c : end + len ≡ countOf e room (secret cl x kem d ks s) = (λ i. f i + g i) ∙ count-is l (kRecord (kOf (e .method) x d)) t in
-        let y : at e SecretDone l bytes ≡ taken e (secret cl x kem d ks s) = ap (at e SecretDone l) b ∙ t in
+        let y : withStage e SecretDone l bytes ≡ taken e (secret cl x kem d ks s) = ap (withStage e SecretDone l) b ∙ t in
         (λ i. record { number = 0; count = c i; second = second-is i; exchange = y i }) ∙ step-accepted e room (secret cl x kem d ks s) z .0
 
-    filled-client : (e .role ≡ 2 → ⊥) → over room (fieldsEnd (e .lens)) (kOf (e .method) x d) ≡ filled e room (secret cl x kem d ks s)
+    filled-client : (e .role ≡ server → ⊥) → over room (fieldsEnd (e .lens)) (kOf (e .method) x d) ≡ filled e room (secret cl x kem d ks s)
     unfolding filled
-    filled-client h = rw (ne-eqb (e .role) 2 h)
+    filled-client h = rw (ne-eqb (e .role) server h)
 
-    filled-server : e .role ≡ 2
+    filled-server : e .role ≡ server
         → over room (headEnd (e .lens)) (field ks ++ standingC (e .lens) room ++ field s ++ kOf (e .method) x d) ≡ filled e room (secret cl x kem d ks s)
     unfolding filled
-    filled-server h = rw (eq-eqb (e .role) 2 h)
+    filled-server h = rw (eq-eqb (e .role) server h)
 
     -- what a client answers and leaves
-    pub client-done : (e .role ≡ 2 → ⊥) → (end len : ℕ) (bytes src left : List ℕ) → end ≡ fieldsEnd (e .lens) → len ≡ length (kOf (e .method) x d)
+    pub client-done : (e .role ≡ server → ⊥) → (end len : ℕ) (bytes src left : List ℕ) → end ≡ fieldsSize (e .lens) → len ≡ length (kOf (e .method) x d)
         → bytes ≡ kRecord (kOf (e .method) x d) → src ≡ bytesAt bytes (inside (length bytes) (part 0 len)) → left ≡ laid room end src
-        → (_≡_ {A = Step} (record { number = 0; count = end + len; second = 0; exchange = at e SecretDone (e .lens) bytes }) (answered e room (secret cl x kem d ks s)))
+        → (_≡_ {A = Step} (record { number = 0; count = end + len; second = 0; exchange = withStage e SecretDone (e .lens) bytes }) (answered e room (secret cl x kem d ks s)))
         × (left ≡ roomAfter e room (secret cl x kem d ks s))
-    client-done h end len bytes src left f g b p w =
+    client-done h end len bytes src left f₀ g b p w =
         let t = secret-fits in
+        let f = f₀ ∙ fields-fits (e .lens) (t .sums) in
         let k = key-part (kOf (e .method) x d) len bytes src (t .k-fits) g b p in (
           answer (e .lens) end len bytes (taken-client h) f g b,
           w ∙ (λ i. laid room (f i) (k i))
@@ -207,14 +209,17 @@ module _ (e : Exchange) (room : List ℕ) (cl : Classical) (x : List ℕ) (kem :
         )
 
     -- what a server answers and leaves
-    pub server-done : e .role ≡ 2 → (start size end len : ℕ) (bytes src mid left : List ℕ) → start ≡ headEnd (e .lens) → size ≡ fieldLength (e .lens .c)
-        → mid ≡ around room start size ks s → end ≡ fieldsEnd (withS (e .lens) (length ks) (length s)) → len ≡ length (kOf (e .method) x d)
+    pub server-done : e .role ≡ server → (start size end len : ℕ) (bytes src mid left : List ℕ) → start ≡ headSize (e .lens) → size ≡ fieldSize (e .lens .c)
+        → mid ≡ around room start size ks s → end ≡ fieldsSize (withS (e .lens) (length ks) (length s)) → len ≡ length (kOf (e .method) x d)
         → bytes ≡ kRecord (kOf (e .method) x d) → src ≡ bytesAt bytes (inside (length bytes) (part 0 len)) → left ≡ laid mid end src
-        → (_≡_ {A = Step} (record { number = 0; count = end + len; second = 0; exchange = at e SecretDone (withS (e .lens) (length ks) (length s)) bytes }) (answered e room (secret cl x kem d ks s)))
+        → (_≡_ {A = Step} (record { number = 0; count = end + len; second = 0; exchange = withStage e SecretDone (withS (e .lens) (length ks) (length s)) bytes }) (answered e room (secret cl x kem d ks s)))
         × (left ≡ roomAfter e room (secret cl x kem d ks s))
-    server-done h start size end len bytes src mid left a c m f g b p w =
+    server-done h start size end len bytes src mid left a₀ c₀ m f₀ g b p w =
         let t = secret-fits in
         let u = server-fits h in
+        let a = a₀ ∙ head-fits (e .lens) (t .sums) in
+        let c = c₀ ∙ size-fits (e .lens .c) (t .sums .c) in
+        let f = f₀ ∙ fields-fits (withS (e .lens) (length ks) (length s)) (u .sums) in
         let k = key-part (kOf (e .method) x d) len bytes src (t .k-fits) g b p in
         let o : mid ≡ around room (headEnd (e .lens)) (fieldLength (e .lens .c)) ks s = m ∙ (λ i. around room (a i) (c i) ks s) in (
           answer (withS (e .lens) (length ks) (length s)) end len bytes (taken-server h) f g b,

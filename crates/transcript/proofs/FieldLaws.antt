@@ -12,8 +12,8 @@ use borrow.Author.Fill.{fill-more}
 use borrow.Author.Tests.{le-leb, lt-leb, eq-eqb, ne-eqb}
 use Rattle.buffers.specs.Bytes.{zeros, over, laid}
 use Rattle.buffers.proofs.ByteLaws.{length-over, over-over, laid-fits}
-use Rattle.transcript.specs.Fields.{field, fieldLength, around}
-use Rattle.transcript.proofs.RoomLaws.{length-field}
+use Rattle.transcript.specs.Fields.{sizeMost, field, fieldLength, fieldSize, sizeSum, around}
+use Rattle.transcript.proofs.RoomLaws.{length-field, fieldLength-most}
 
 -- ---- a field, missing or not
 
@@ -32,6 +32,27 @@ fieldLength-none n h = rw (eq-eqb n 0 h)
 pub fieldLength-some : (n : ℕ) → (n ≡ 0 → ⊥) → fieldLength n ≡ 4 + n
 unfolding fieldLength
 fieldLength-some n h = rw (ne-eqb n 0 h)
+
+-- counted by the code: the same wherever the sum fits
+pub fieldSize-fits : (n : ℕ) → 4 + n ≤ sizeMost → fieldSize n ≡ fieldLength n
+unfolding fieldSize
+fieldSize-fits n h = rw (le-leb (4 + n) sizeMost h)
+
+pub fieldSize-past : (n : ℕ) → sizeMost < 4 + n → fieldSize n ≡ sizeMost
+unfolding fieldSize
+fieldSize-past n h = rw (lt-leb (4 + n) sizeMost h)
+
+pub sizeSum-fits : (a b : ℕ) → a + b ≤ sizeMost → sizeSum a b ≡ a + b
+unfolding sizeSum
+sizeSum-fits a b h = rw (le-leb (a + b) sizeMost h)
+
+pub sizeSum-past : (a b : ℕ) → sizeMost < a + b → sizeSum a b ≡ sizeMost
+unfolding sizeSum
+sizeSum-past a b h = rw (lt-leb (a + b) sizeMost h)
+
+-- of a field in hand
+pub size-of : (f : List ℕ) (r : ℕ) → r ≡ fieldSize (length f) → 4 + length f ≤ sizeMost → (r ≡ fieldLength (length f)) × (r ≤ 4 + length f)
+size-of f r e h = let g = e ∙ fieldSize-fits (length f) h in (g, omega (arith, fieldLength-most (length f)))
 
 -- nothing laid
 pub over-nil : (l : List ℕ) (at : ℕ) → over l at [] ≡ l

@@ -16,6 +16,18 @@ field (b ∷ f) = string (b ∷ f)
 unfoldable pub fieldLength : ℕ → ℕ
 fieldLength n = cond (eqb n 0) 0 (4 + n)
 
+-- the greatest number that the code's sums can be
+abbrev pub sizeMost : ℕ
+sizeMost = 18446744073709551615
+
+-- its length as the code counts it: the greatest number where the sum would pass it
+unfoldable pub fieldSize : ℕ → ℕ
+fieldSize n = cond (leb (4 + n) sizeMost) (fieldLength n) sizeMost
+
+-- two sizes together, likewise
+unfoldable pub sizeSum : ℕ → ℕ → ℕ
+sizeSum a b = cond (leb (a + b) sizeMost) (a + b) sizeMost
+
 -- the room with one field put in ahead of the len bytes that stand at `at` and another behind them; as it was where they do not fit
 unfoldable pub around : List ℕ → ℕ → ℕ → List ℕ → List ℕ → List ℕ
 around room at len ahead behind =

@@ -4,7 +4,7 @@ ghost use mathlib.Core.Path.{_≡_};
 ghost use Prim.Native.Nat.{_+_, _≤_};
 ghost use lib.ListN.{length, take, drop};
 ghost use Rattle.buffers.specs.Bytes.{zeros, over, laid};
-ghost use Rattle.transcript.specs.Fields.{field, fieldLength, around};
+ghost use Rattle.transcript.specs.Fields.{field, fieldSize, sizeSum, around};
 
 // Fills the whole room with zeros.
 pub fn wipe(room: &mut [u8])
@@ -17,14 +17,31 @@ pub fn wipe(room: &mut [u8])
     }
 }
 
-// Bytes that a field takes in the room: none where it is missing.
-fn field_size(f: &[u8]) -> usize
-    ensures { λ r. ⌜ (r ≡ fieldLength (length (now (f .entry)))) × (r ≤ 4 + length (now (f .entry))) ⌝ }
+// The greatest size.
+const SIZE_MOST: usize = 18446744073709551615;
+
+// Bytes that a field of n bytes takes in the room: none where it is missing, else four more. Where that sum would pass the greatest
+// size, the greatest size.
+pub fn field_size(n: usize) -> usize
+    ensures { λ r. ⌜ r ≡ fieldSize n ⌝ }
 {
-    if f.len() == 0 {
+    if n == 0 {
         return 0;
     }
-    4 + f.len()
+    if SIZE_MOST - 4 < n {
+        return SIZE_MOST;
+    }
+    4 + n
+}
+
+// Two sizes together; where the sum would pass the greatest size, the greatest size.
+pub fn add_sizes(a: usize, b: usize) -> usize
+    ensures { λ r. ⌜ r ≡ sizeSum a b ⌝ }
+{
+    if SIZE_MOST - a < b {
+        return SIZE_MOST;
+    }
+    a + b
 }
 
 // Lays a field into the room from `at` on, where it fits there; else the room stays.
@@ -34,7 +51,7 @@ pub fn put_field(room: &mut [u8], at: usize, f: &[u8])
     if f.len() == 0 {
         return;
     }
-    wire::put_string(room, at, f);
+    writers::put_string(room, at, f);
 }
 
 // Moves the len bytes at `at` up by so many.
@@ -53,8 +70,8 @@ fn move_up(room: &mut [u8], at: usize, len: usize, by: usize)
 pub fn put_around(room: &mut [u8], at: usize, len: usize, ahead: &[u8], behind: &[u8])
     ensures { λ _. ⌜ now (room .exit) ≡ around (now (room .entry)) at len (now (ahead .entry)) (now (behind .entry)) ⌝ }
 {
-    let a = field_size(ahead);
-    let b = field_size(behind);
+    let a = field_size(ahead.len());
+    let b = field_size(behind.len());
     if room.len() < at {
         return;
     }

@@ -9,7 +9,7 @@ use Rattle.views.specs.declared.View.{View}
 
 -- a view at the beginning of what opening gave: a refused one has only the end ahead
 abbrev pub openedBy : RefT (List ℕ) → Opened → View
-openedBy s o = record { payload = s; cursor = o .cursor; opened = o }
+openedBy s o = record { payload = s; cursor = o .cursor; head = o .head }
 
 -- what a view yields
 abbrev pub yielded : View → Next
@@ -17,4 +17,4 @@ yielded v = nextName (now (v .payload)) (v .cursor)
 
 -- what a step leaves: the view at the answer's cursor, which at the end and at a bad name is its own
 abbrev pub leftBy : View → Next → View
-leftBy v n = record { payload = v .payload; cursor = n .cursor; opened = v .opened }
+leftBy v n = record { payload = v .payload; cursor = n .cursor; head = v .head }

@@ -1,6 +1,6 @@
-// A list of a KEXINIT as a view over the lent payload: the slice, a cursor that yields its names one at a time, and what opening
-// gave. Each function is thin, over a covered one that takes the slice and the cursor.
-use kexinit::Opened;
+// A list of a KEXINIT as a view over the lent payload: the slice, a cursor that yields its names one at a time, and what opening gave
+// beside it. Each function is thin, over a covered one that takes the slice and the cursor.
+use kexinit::Head;
 use names::Cursor;
 use names::Next;
 ghost use mathlib.Core.Path.{_≡_};
@@ -14,7 +14,7 @@ ghost use Rattle.views.specs.View.{openedBy, yielded, leftBy};
 pub struct View<'a> {
     pub payload: &'a [u8],
     pub cursor: Cursor,
-    pub opened: Opened,
+    pub head: Head,
 }
 
 // Opens a view on a list, 1 to 10. A refused one yields only the end.
@@ -23,10 +23,11 @@ pub fn open_view<'a>(payload: &'a [u8], list: usize) -> View<'a>
 {
     let o = kexinit::open_list(payload, list);
     let c = o.cursor;
+    let h = o.head;
     View {
         payload,
         cursor: c,
-        opened: o,
+        head: h,
     }
 }
 
@@ -46,23 +47,22 @@ pub fn name_of<'a>(v: View<'a>, n: Next) -> &'a [u8]
     wire::part_of(v.payload, n.name)
 }
 
-// Opens a view, and hands back what that gave.
-pub fn open_through(payload: &[u8], list: usize) -> Opened
-    ensures { λ r. ⌜ r ≡ openList (now (payload .entry)) list ⌝ }
+// Opens a view, and hands back what that gave beside its cursor: for callers that hold no view.
+pub fn open_by_view(payload: &[u8], list: usize) -> Head
+    ensures { λ r. ⌜ r ≡ openList (now (payload .entry)) list .head ⌝ }
 {
     let v = open_view(payload, list);
-    v.opened
+    v.head
 }
 
-// A step of a view at a cursor.
-pub fn next_through(payload: &[u8], cursor: Cursor) -> Next
+// A step of a view that stands at a cursor, likewise.
+pub fn next_by_view(payload: &[u8], cursor: Cursor, head: Head) -> Next
     ensures { λ r. ⌜ r ≡ nextName (now (payload .entry)) cursor ⌝ }
 {
-    let o = kexinit::open_list(payload, 1);
     let mut v = View {
         payload,
         cursor,
-        opened: o,
+        head,
     };
     next_in(&mut v)
 }

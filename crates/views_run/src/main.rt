@@ -1,5 +1,6 @@
 // Opens a view on every list of the payloads of its standard input and yields the names to where they stop, each call beside the same
 // call of the covered reader. What it prints is held to the file `stdout`, which tests/expect_views.py computes.
+use kexinit::Head;
 use libc::STDIN_FILENO;
 use libc::STDOUT_FILENO;
 use names::Cursor;
@@ -36,12 +37,12 @@ fn put_name(payload: &[u8], name: Part) {
 }
 
 // Yields names by a view and by the reader until none is found.
-fn walked(payload: &[u8], view: Cursor, reader: Cursor) -> bool {
-    let mut a = view;
-    let mut b = reader;
+fn walked(payload: &[u8], head: Head, from: Cursor) -> bool {
+    let mut a = from;
+    let mut b = from;
     let mut k: usize = 0;
     while k < 100 {
-        let r = views::next_through(payload, a);
+        let r = views::next_by_view(payload, a, head);
         let n = names::next_name(payload, b);
         if !same_next(r, n) {
             return false;
@@ -61,12 +62,13 @@ fn walked(payload: &[u8], view: Cursor, reader: Cursor) -> bool {
 fn list(payload: &[u8], i: usize) {
     decimal(i);
     text(b": ");
-    let r = views::open_through(payload, i);
+    let r = views::open_by_view(payload, i);
     let o = kexinit::open_list(payload, i);
+    let head = o.head;
     decimal(r.number as usize);
     text(b" ");
-    let walk = walked(payload, r.cursor, o.cursor);
-    put_same(walk && r.number == o.number);
+    let walk = walked(payload, r, o.cursor);
+    put_same(walk && r.number == head.number);
 }
 
 fn lists(payload: &[u8]) {

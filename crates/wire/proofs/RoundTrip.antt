@@ -3,20 +3,20 @@
 use Prim.Native.Nat.{ℕ, _+_, _-_, _*_, _/_, _%_, _≤_, _<_}
 use mathlib.Core.Path.{_≡_, refl, sym, ap, _∙_}
 use mathlib.Core.List.{List, [], _∷_, _++_}
-use mathlib.Core.Bool.{true, false}
+use mathlib.Core.Bool.{true}
 use native.Mathlib.Omega.{arith}
-use native.Mathlib.Nat.{add-sub-cancel-left}
-use lib.ListN.{length, getD, take, drop, length-append, length-drop, take-append-drop}
+use lib.ListN.{length, take, drop, length-append, length-drop, take-append-drop}
 use lib.Seq.{take-all, take-append-seam, drop-append-seam, length-take-le, take-add}
+use Rattle.limits.specs.Limits.{stringMost}
 use Rattle.buffers.specs.Bytes.{Bytes}
 use Rattle.wire.specs.Parts.{part, bytesAt}
 use Rattle.wire.specs.Strings.{number32, bytes32, string, whole, readString}
 use Rattle.wire.specs.declared.StringRead.{StringRead}
 use Rattle.buffers.proofs.ByteLaws.{tail-part}
-use Rattle.wire.proofs.StringLaws.{length-string, whole-within, whole-is, read-found}
+use Rattle.wire.proofs.StringLaws.{length-string, whole-within, whole-is, read-found, read-zero}
 
 -- the four bytes give the number back
-pub number32-bytes32 : (n : ℕ) (t : List ℕ) → n < 4294967296 → number32 (bytes32 n ++ t) ≡ n
+pub number32-bytes32 : (n : ℕ) (t : List ℕ) → n ≤ stringMost → number32 (bytes32 n ++ t) ≡ n
 number32-bytes32 n t h =
     let q : n / 16777216 < 256 = omega arith in
     let p : n / 16777216 % 256 ≡ n / 16777216 = omega arith in
@@ -25,7 +25,7 @@ number32-bytes32 n t h =
     r ∙ omega arith
 
 -- ---- what is written is read back, with anything after it
-module _ (b t : List ℕ) (h : length b ≤ 4294967295) where
+module _ (b t : List ℕ) (h : length b ≤ stringMost) where
   pub number32-string : number32 (string b ++ t) ≡ length b
   unfolding string
   number32-string = number32-bytes32 (length b) (b ++ t) (omega arith)
@@ -84,11 +84,12 @@ length-body s w =
     let k = whole-within s w in
     ap length (body-found s w) ∙ length-take-le (number32 s) (drop 4 s) (omega (arith, length-drop 4 s))
 
--- an accepted input is the string of its body, and then its rest
-pub string-sound : (s : List ℕ) → Bytes s → whole s ≡ true
+-- an input that the reader answers with 0 is the string of its body, and then its rest
+pub string-sound : (s : List ℕ) → Bytes s → readString s .number ≡ 0
     → s ≡ string (bytesAt s (readString s .body)) ++ bytesAt s (readString s .rest)
 unfolding string
-string-sound s y w =
+string-sound s y z =
+    let w = read-zero s (readString s) refl z in
     let k = whole-within s w in
     let n = number32 s in
     let e = body-found s w in

@@ -2,33 +2,25 @@
 use Prim.Native.Nat.{ℕ, zero, suc, _+_, _-_, _*_, _≤_, _<_}
 use native.Mathlib.Nat.{add-zero}
 use mathlib.Core.Path.{_≡_, refl, sym, ap, _∙_}
-use mathlib.Core.List.{List, [], _++_}
-use mathlib.Core.Bool.{Bool, true, false, cond, _&&_, false≢true}
+use mathlib.Core.List.{List}
+use mathlib.Core.Bool.{Bool, true, false, cond}
 use native.Mathlib.Omega.{arith}
-use lib.ListN.{length, getD, take, drop, length-drop, drop-of-length-le}
+use lib.ListN.{length, getD, drop, length-drop}
 use lib.Seq.{getD-drop}
-use lib.Dec.{ltb, leb}
-use borrow.Author.Tests.{leb-true, le-leb, lt-leb, lt-ltb, le-ltb}
+use lib.Dec.{leb}
+use borrow.Author.Tests.{leb-true, le-leb, lt-leb}
+use Rattle.limits.proofs.BoolLaws.{and-true, and-false}
 use Rattle.wire.specs.Parts.{part, nothing}
-use Rattle.buffers.specs.Bytes.{laid}
-use Rattle.wire.specs.Strings.{bytes32, number32, numberAt, string, whole, fieldAt, walk, readString, stringCause}
+use Rattle.wire.specs.Strings.{number32, numberAt, string, whole, fieldAt, walk, readString}
 use Rattle.wire.specs.declared.Field.{Field}
 use Rattle.wire.specs.declared.StringRead.{StringRead}
 use Rattle.wire.specs.declared.Walk.{Walk}
-use Rattle.buffers.proofs.ByteLaws.{laid-laid}
-use Rattle.wire.proofs.CauseLaws.{if-holds, if-fails}
 
 -- ---- string
 
 pub length-string : (b : List ℕ) → length (string b) ≡ 4 + length b
 unfolding string
 length-string b = omega arith
-
--- length bytes, and then the body
-pub laid-string : (l : List ℕ) (at : ℕ) (b : List ℕ) → at + length (string b) ≤ length l
-    → laid (laid l at (bytes32 (length b))) (at + 4) b ≡ laid l at (string b)
-unfolding string
-laid-string l at b h = laid-laid l at (bytes32 (length b)) b h
 
 -- ---- numberAt
 
@@ -48,10 +40,6 @@ module _ (s : List ℕ) (at : ℕ) where
 
 -- ---- whole
 
-pub and-true : (a b : Bool) → a && b ≡ true → (a ≡ true) × (b ≡ true)
-and-true true b e = (refl, e)
-and-true false b e = absurd (false≢true e)
-
 -- a whole string lies within the list
 pub whole-within : (s : List ℕ) → whole s ≡ true → 4 + number32 s ≤ length s
 unfolding whole
@@ -67,11 +55,7 @@ whole-no-length s h = rw (lt-leb 4 (length s) h)
 
 pub whole-no-body : (s : List ℕ) → length s < 4 + number32 s → whole s ≡ false
 unfolding whole
-whole-no-body s h = rw (lt-leb (4 + number32 s) (length s) h) (by-test (leb 4 (length s)))
-  where
-    by-test : (t : Bool) → t && false ≡ false
-    by-test true = refl
-    by-test false = refl
+whole-no-body s h = rw (lt-leb (4 + number32 s) (length s) h) (and-false (leb 4 (length s)))
 
 -- ---- fieldAt
 
@@ -125,6 +109,18 @@ field-refused s at f e z = by-test (whole (drop at s)) refl e
         → whole (drop at s) ≡ false
     by-test true w q = absurd (z (ap (λ (x : Field). x .number) q))
     by-test false w q = w
+
+-- a field lies within the list, a refusal's too
+pub field-within : (s : List ℕ) (at : ℕ) → fieldAt s at .start + fieldAt s at .len ≤ length s
+unfolding fieldAt
+field-within s at = by-test (whole (drop at s)) refl
+  where
+    found : Bool → Field
+    found t = cond t (record { number = 0; start = at + 4; len = number32 (drop at s) }) (record { number = 12; start = 0; len = 0 })
+
+    by-test : (t : Bool) → whole (drop at s) ≡ t → found t .start + found t .len ≤ length s
+    by-test true w = let k = whole-within (drop at s) w in omega (arith, length-drop at s)
+    by-test false w = omega arith
 
 -- ---- walk
 
@@ -190,18 +186,3 @@ read-within s = by-test (whole s) refl
         → (read t .body .start + read t .body .len ≤ length s) × (read t .rest .start + read t .rest .len ≤ length s)
     by-test true w = let k = whole-within s w in (k, omega arith)
     by-test false w = (omega arith, omega arith)
-
--- ---- stringCause
-
-module _ (size : ℕ) (b : List ℕ) where
-  pub string-long : 4294967295 < length b → stringCause size b ≡ 4
-  unfolding stringCause
-  string-long h = if-holds _ 4 _ (lt-ltb 4294967295 (length b) h)
-
-  pub string-short : length b ≤ 4294967295 → size < 4 + length b → stringCause size b ≡ 5
-  unfolding stringCause
-  string-short h k = if-fails _ 4 _ (le-ltb 4294967295 (length b) h) ∙ if-holds _ 5 0 (lt-ltb size (length (string b)) (omega (arith, length-string b)))
-
-  pub string-fits : length b ≤ 4294967295 → 4 + length b ≤ size → stringCause size b ≡ 0
-  unfolding stringCause
-  string-fits h k = if-fails _ 4 _ (le-ltb 4294967295 (length b) h) ∙ if-fails _ 5 0 (le-ltb size (length (string b)) (omega (arith, length-string b)))

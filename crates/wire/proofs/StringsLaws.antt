@@ -7,12 +7,14 @@ use native.Mathlib.Omega.{arith}
 use native.Mathlib.Nat.{add-assoc}
 use lib.ListN.{length, getD, take, drop, length-append, length-drop, take-append-drop}
 use lib.Seq.{take-append-seam, drop-append-seam, drop-drop, getD-drop, length-take-le, take-add}
+use Rattle.limits.specs.Limits.{stringMost}
 use Rattle.buffers.specs.Bytes.{Bytes}
 use Rattle.wire.specs.Parts.{part, bytesAt}
-use Rattle.wire.specs.Strings.{bytes32, number32, string, strings, whole, fieldAt, walk}
+use Rattle.wire.specs.Strings.{bytes32, number32, string, strings, whole, fieldAt, walk, stringPart}
 use Rattle.wire.specs.declared.Field.{Field}
 use Rattle.wire.specs.declared.Walk.{Walk}
-use Rattle.wire.proofs.StringLaws.{length-string, whole-within}
+use Rattle.wire.proofs.StringLaws.{length-string, whole-within, field-within}
+use Rattle.wire.proofs.WalkLaws.{field-whole}
 use Rattle.wire.proofs.RoundTrip.{number32-string, whole-string, bytes32-number32}
 
 pub length-strings : (b : List ℕ) (bs : List (List ℕ)) → length (strings (b ∷ bs)) ≡ 4 + length b + length (strings bs)
@@ -22,15 +24,16 @@ pub strings-append : (a b : List (List ℕ)) → strings (a ++ b) ≡ strings a 
 strings-append [] b = refl
 strings-append (l ∷ a) b = ap (λ (x : List ℕ). string l ++ x) (strings-append a b) ∙ sym (append-assoc (string l) (strings a) (strings b))
 
--- the body of the string that k strings from `at` on precede
-abbrev pub bodyAt : List ℕ → ℕ → ℕ → List ℕ
-bodyAt s at k = bytesAt s (part (fieldAt s (walk s at k .place) .start) (fieldAt s (walk s at k .place) .len))
+-- a string's place lies within the list, wherever it is sought
+pub part-within : (s : List ℕ) (at i : ℕ) → stringPart s at i .start + stringPart s at i .len ≤ length s
+unfolding stringPart
+part-within s at i = field-within s (walk s at i .place)
 
 -- ---- where strings stand
 
 module _ (s : List ℕ) where
   -- a string stands at `at`
-  module _ (at : ℕ) (b t : List ℕ) (h : length b ≤ 4294967295) (e : drop at s ≡ string b ++ t) where
+  module _ (at : ℕ) (b t : List ℕ) (h : length b ≤ stringMost) (e : drop at s ≡ string b ++ t) where
     whole-there : whole (drop at s) ≡ true
     whole-there = ap whole e ∙ whole-string b t h
 
@@ -60,7 +63,7 @@ module _ (s : List ℕ) where
         ∙ take-append-seam b t
 
   -- a walk over a run of strings ends behind them
-  pub walk-strings : (at : ℕ) (bs : List (List ℕ)) (t : List ℕ) → length (strings bs) ≤ 4294967295 → drop at s ≡ strings bs ++ t
+  pub walk-strings : (at : ℕ) (bs : List (List ℕ)) (t : List ℕ) → length (strings bs) ≤ stringMost → drop at s ≡ strings bs ++ t
       → walk s at (length bs) ≡ record { number = 0; place = at + length (strings bs) }
   walk-strings at [] t h e = let n : at ≡ at + 0 = omega arith in ap (λ (m : ℕ). record { number = 0; place = m }) n
   walk-strings at (b ∷ bs) t h e =
@@ -72,8 +75,9 @@ module _ (s : List ℕ) where
       ∙ ap (λ (m : ℕ). record { number = 0; place = m }) m
 
   -- and each of them is found by its number
-  pub body-strings : (at : ℕ) (bs : List (List ℕ)) (t : List ℕ) (k : ℕ) → length (strings bs) ≤ 4294967295 → drop at s ≡ strings bs ++ t → k < length bs
-      → bodyAt s at k ≡ getD bs k []
+  pub body-strings : (at : ℕ) (bs : List (List ℕ)) (t : List ℕ) (k : ℕ) → length (strings bs) ≤ stringMost → drop at s ≡ strings bs ++ t → k < length bs
+      → bytesAt s (stringPart s at k) ≡ getD bs k []
+  unfolding stringPart
   body-strings at [] t k h e i = let w : ⊥ = omega arith in absurd w
   body-strings at (b ∷ bs) t zero h e i =
       let n = length-strings b bs in
@@ -113,10 +117,6 @@ module _ (s : List ℕ) where
   walk-step : (at k : ℕ) → whole (drop at s) ≡ true → walk s at (suc k) ≡ walk s (at + 4 + number32 (drop at s)) k
   walk-step at k w = rw w
 
-  field-whole : (at : ℕ) → whole (drop at s) ≡ true → fieldAt s at ≡ record { number = 0; start = at + 4; len = number32 (drop at s) }
-  unfolding fieldAt
-  field-whole at w = rw w
-
   -- the first string of a walk that ended well is whole, and the others end well
   passed : (at k : ℕ) → walk s at (suc k) .number ≡ 0 → (whole (drop at s) ≡ true) × (walk s (at + 4 + number32 (drop at s)) k .number ≡ 0)
   passed at k e = by-test (whole (drop at s)) e
@@ -145,10 +145,11 @@ module _ (s : List ℕ) where
       ∙ string-front (drop at s) (bytes-drop s at y) (q .0)
 
   -- and each of the bodies is found by its number
-  pub body-walked : (at k j : ℕ) → walk s at k .number ≡ 0 → j < k → getD (bodies s at k) j [] ≡ bodyAt s at j
+  pub body-walked : (at k j : ℕ) → walk s at k .number ≡ 0 → j < k → getD (bodies s at k) j [] ≡ bytesAt s (stringPart s at j)
+  unfolding stringPart
   body-walked at zero j e h = let v : ⊥ = omega arith in absurd v
   body-walked at (suc k) zero e h =
-      sym (ap (λ (f : Field). bytesAt s (part (f .start) (f .len))) (field-whole at (passed at k e .0)))
+      sym (ap (λ (f : Field). bytesAt s (part (f .start) (f .len))) (field-whole s at (passed at k e .0)))
   body-walked at (suc k) (suc j) e h =
       let q = passed at k e in
       body-walked (at + 4 + number32 (drop at s)) k j (q .1) (omega arith)

@@ -1,4 +1,3 @@
 pub mod Causes
 pub mod Parts
 pub mod Strings
-pub mod Writers

@@ -2,11 +2,11 @@
 use Prim.Native.Nat.{ℕ, zero, suc, _+_, _-_, _*_, _/_, _%_}
 use mathlib.Core.List.{List, [], _∷_, _++_}
 use mathlib.Core.Bool.{Bool, cond, _&&_}
-use lib.ListN.{length, getD, take, drop}
-use lib.Dec.{ltb, leb}
-use Rattle.wire.specs.Causes.{causeIf}
+use lib.ListN.{length, getD, drop}
+use lib.Dec.{leb}
 use Rattle.wire.specs.Parts.{part, nothing}
 use Rattle.wire.specs.declared.Field.{Field}
+use Rattle.wire.specs.declared.Part.{Part}
 use Rattle.wire.specs.declared.StringRead.{StringRead}
 use Rattle.wire.specs.declared.Walk.{Walk}
 
@@ -51,13 +51,13 @@ abbrev pub walk : List ℕ → ℕ → ℕ → Walk
 walk s at zero = record { number = 0; place = at }
 walk s at (suc k) = cond (whole (drop at s)) (walk s (at + 4 + number32 (drop at s)) k) (record { number = 12; place = at })
 
+-- the place of string i, counted from 0, of those that begin at `at`
+unfoldable pub stringPart : List ℕ → ℕ → ℕ → Part
+stringPart s at i = part (fieldAt s (walk s at i .place) .start) (fieldAt s (walk s at i .place) .len)
+
 -- the string at the front: its body and what follows it; 12 where it passes the end, for an empty input too
 unfoldable pub readString : List ℕ → StringRead
 readString s =
     cond (whole s)
     (record { number = 0; body = part 4 (number32 s); rest = part (4 + number32 s) (length s - (4 + number32 s)) })
     (record { number = 12; body = nothing; rest = nothing })
-
--- why a string with this body is not written to an output of `size` bytes: its length does not fit its four bytes, or it does not fit the output
-unfoldable pub stringCause : ℕ → List ℕ → ℕ
-stringCause size body = causeIf (ltb 4294967295 (length body)) 4 (causeIf (ltb size (length (string body))) 5 0)

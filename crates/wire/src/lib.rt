@@ -1,13 +1,10 @@
-// The SSH string (RFC 4251, section 5), and what every codec above it shares: the place of a part in an input,
-// the answer of a writer, bytes laid into a lent buffer, two byte strings compared.
+// The SSH string (RFC 4251, section 5) as it is read, alone and in a run of strings, and the place of a part in an input.
 ghost use mathlib.Core.Path.{_≡_};
-ghost use Prim.Native.Nat.{_+_, _*_};
+ghost use Prim.Native.Nat.{_*_, _+_};
 ghost use lib.ListN.{length};
 ghost use denote.Ref.{ptr};
-ghost use Rattle.buffers.specs.Bytes.{laid};
 ghost use Rattle.wire.specs.Parts.{inside, bytesAt, placeAt};
-ghost use Rattle.wire.specs.Strings.{bytes32, numberAt, string, fieldAt, walk, readString, stringCause};
-ghost use Rattle.wire.specs.Writers.{wrote, leaves};
+ghost use Rattle.wire.specs.Strings.{numberAt, fieldAt, walk, stringPart, readString};
 
 // The place of a part in an input, counted from the input's first byte. A refusal's parts are empty, at 0.
 #[repr(C)]
@@ -35,13 +32,6 @@ pub struct StringRead {
     pub number: u8,
     pub body: Part,
     pub rest: Part,
-}
-
-// What a writer answers: 0 and the bytes written, or the number of a refusal and 0.
-#[repr(C)]
-pub struct Written {
-    pub number: u8,
-    pub count: usize,
 }
 
 // The part of s at a place; the empty part at its start where the place passes the end.
@@ -132,6 +122,18 @@ pub fn skip_strings(s: &[u8], at: usize, k: usize) -> Walk
     Walk { number: 0, place }
 }
 
+// The place of string i, counted from 0, of those that begin at `at`; the empty part where it, or one ahead of it, passes the end.
+pub fn string_part(s: &[u8], at: usize, i: usize) -> Part
+    ensures { λ r. ⌜ r ≡ stringPart (now (s .entry)) at i ⌝ }
+{
+    let w = skip_strings(s, at, i);
+    let f = field_at(s, w.place);
+    Part {
+        start: f.start,
+        len: f.len,
+    }
+}
+
 // The string at the front of s, and what follows it.
 pub fn read_string(s: &[u8]) -> StringRead
     ensures { λ r. ⌜ r ≡ readString (now (s .entry)) ⌝ }
@@ -175,61 +177,4 @@ pub fn string_rest(s: &[u8]) -> &[u8]
     let r = read_string(s);
     let p = r.rest;
     part_of(s, p)
-}
-
-// Lays the four bytes of n into out from `at` on, where they fit there; else out stays.
-pub fn put_u32(out: &mut [u8], at: usize, n: usize)
-    ensures { λ _. ⌜ now (out .exit) ≡ laid (now (out .entry)) at (bytes32 n) ⌝ }
-{
-    if out.len() < at {
-        return;
-    }
-    if out.len() - at < 4 {
-        return;
-    }
-    out[at] = (n / 16777216 % 256) as u8;
-    out[at + 1] = (n / 65536 % 256) as u8;
-    out[at + 2] = (n / 256 % 256) as u8;
-    out[at + 3] = (n % 256) as u8;
-}
-
-// Lays body as a string into out from `at` on, where it fits there; else out stays.
-pub fn put_string(out: &mut [u8], at: usize, body: &[u8])
-    ensures { λ _. ⌜ now (out .exit) ≡ laid (now (out .entry)) at (string (now (body .entry))) ⌝ }
-{
-    if out.len() < at {
-        return;
-    }
-    if out.len() - at < 4 {
-        return;
-    }
-    if out.len() - at - 4 < body.len() {
-        return;
-    }
-    put_u32(out, at, body.len());
-    buffers::put_bytes(out, at + 4, body);
-}
-
-// Writes body as a string at the beginning of out.
-pub fn write_string(out: &mut [u8], body: &[u8]) -> Written
-    ensures { λ r. ⌜ (r ≡ wrote (stringCause (length (now (out .entry))) (now (body .entry))) (string (now (body .entry)))) × (now (out .exit) ≡ leaves (stringCause (length (now (out .entry))) (now (body .entry))) (string (now (body .entry))) (now (out .entry))) ⌝ }
-{
-    let n = body.len();
-    if 4294967295 < n {
-        return Written {
-            number: 4,
-            count: 0,
-        };
-    }
-    if out.len() < 4 + n {
-        return Written {
-            number: 5,
-            count: 0,
-        };
-    }
-    put_string(out, 0, body);
-    Written {
-        number: 0,
-        count: 4 + n,
-    }
 }

@@ -1,36 +1,37 @@
 -- The worked examples hold, all in one equation. Assumes nothing.
-use Prim.Native.Nat.{ℕ, zero, suc, _+_, _≤_, _<_}
-use mathlib.Core.Path.{_≡_, refl, sym, ap, _∙_}
+use Prim.Native.Nat.{ℕ, suc, _+_, _≤_}
+use mathlib.Core.Path.{_≡_, refl, ap, _∙_}
 use mathlib.Core.List.{List, [], _∷_, _++_, map}
 use native.Mathlib.Omega.{arith}
-use lib.ListN.{length, drop, replicate, length-append}
+use lib.ListN.{length, drop, length-append}
 use lib.Seq.{drop-append-seam}
+use Rattle.limits.specs.Limits.{payloadMost}
 use Rattle.buffers.specs.Bytes.{Bytes, zeros}
-use Rattle.wire.specs.Causes.{causeIf, causeUnless, orElse}
+use Rattle.wire.specs.Causes.{causeIf, causeUnless}
 use Rattle.wire.specs.Strings.{number32, string, strings, whole, walk, readString}
 use Rattle.wire.specs.declared.Walk.{Walk}
 use Rattle.wire.proofs.CauseLaws.{orElse-first}
-use Rattle.wire.proofs.StringLaws.{length-string, whole-no-length}
+use Rattle.wire.proofs.StringLaws.{whole-no-length}
 use Rattle.wire.proofs.StringsLaws.{walk-strings}
-use Rattle.messages.proofs.MessageLaws.{message-cut}
-use Rattle.exchange.specs.Causes.{secretCause, replyCause}
+use Rattle.messages.specs.Messages.{replyLayout}
+use Rattle.messages.proofs.PayloadLaws.{fit-not-strings, cause-cut}
+use Rattle.exchange.specs.Causes.{restOk, secretCause, replyCause}
 use Rattle.buffers.proofs.ByteLaws.{bytes-cons}
 use mathlib.Core.Bool.{Bool, true, false, cond}
 use Rattle.mpint.specs.Mpint.{excess, shortest, readMpint}
-use Rattle.mpint.specs.Value.{value}
 use Rattle.mpint.proofs.Unique.{shortest-value}
 use Rattle.methods.specs.Rows.{rows, rowOf}
-use Rattle.worked.specs.Examples.{Result, Example, Choice, examples}
+use Rattle.worked.specs.Examples.{Example, Blanks, examples}
 
 none : Bytes []
 none i = omega arith
 
 -- the only shortest bytes of -128 and of -129
-low-is : (o : Choice) → shortest (o .low) ≡ 0x80 ∷ []
+low-is : (o : Blanks) → shortest (o .low) ≡ 0x80 ∷ []
 unfolding shortest
 low-is o = shortest-value (o .low) (0x80 ∷ []) (o .low-bytes) (bytes-cons 0x80 [] (omega arith) none) (o .low-value)
 
-lower-is : (o : Choice) → shortest (o .lower) ≡ 0xff ∷ 0x7f ∷ []
+lower-is : (o : Blanks) → shortest (o .lower) ≡ 0xff ∷ 0x7f ∷ []
 unfolding shortest
 lower-is o =
     shortest-value (o .lower) (0xff ∷ 0x7f ∷ []) (o .lower-bytes)
@@ -59,7 +60,7 @@ needed [] = refl
 needed (a ∷ r) = refl
 
 -- REPLY's first two strings are there, and the third's length is not
-module _ (o : Choice) where
+module _ (o : Blanks) where
   reply : List ℕ
   reply = (31 ∷ []) ++ (strings (o .ks ∷ o .s ∷ []) ++ o .cut)
 
@@ -83,17 +84,17 @@ module _ (o : Choice) where
   unfolding reply replyCause
   cut-reply =
       let n = third reply 1 (ap (λ (w : Walk). w .number) two) cut-short in
-      let e = message-cut 31 3 reply (omega arith) (o .reply-length) refl (λ z. omega (arith, n)) in
-      orElse-first _ _ (λ z. omega (arith, e)) ∙ sym e
+      let e = cause-cut replyLayout reply (omega arith) (o .reply-length) refl (fit-not-strings replyLayout reply (λ z. omega (arith, n))) in
+      orElse-first _ _ (λ z. omega (arith, e)) ∙ e
 
-pub worked : (o : Choice) → map (λ (e : Example). e .found) (examples o) ≡ map (λ (e : Example). e .stated) (examples o)
-unfolding shortest string whole readString readMpint rows rowOf secretCause causeUnless causeIf reply
+pub worked : (o : Blanks) → map (λ (e : Example). e .found) (examples o) ≡ map (λ (e : Example). e .stated) (examples o)
+unfolding shortest string whole readString readMpint rows rowOf secretCause restOk causeUnless causeIf reply
 worked o = rw (low-is o, lower-is o, needed (o .r), o .r-length, o .digest-length, cut-reply o)
 
--- there is such a choice, so the table is not about nothing
-pub choice : Choice
+-- there is such a blanks, so the table is not about nothing
+pub blanks : Blanks
 unfolding string
-choice = record {
+blanks = record {
   b = 0;
   r = zeros 30;
   r-length = refl;
@@ -113,5 +114,5 @@ choice = record {
   reply-length = short;
 }
   where
-    short : length ((31 ∷ []) ++ (strings ((1 ∷ []) ∷ (2 ∷ []) ∷ []) ++ (0 ∷ 0 ∷ []))) ≤ 32768
+    short : length ((31 ∷ []) ++ (strings ((1 ∷ []) ∷ (2 ∷ []) ∷ []) ++ (0 ∷ 0 ∷ []))) ≤ payloadMost
     short = omega arith

@@ -1,10 +1,11 @@
 -- Document 01, "Worked by hand": P1 to P12, a line of one table each (P3 has two). An example that leaves bytes open holds for every
--- choice of them. Assumes nothing.
+-- blanks of them. Assumes nothing.
 use Prim.Native.Nat.{ℕ, _-_, _≤_}
 use mathlib.Core.Path.{_≡_}
 use mathlib.Core.List.{List, [], _∷_, _++_}
 use lib.ListN.{length, take, drop}
 use lib.IntN.{negsuc}
+use Rattle.limits.specs.Limits.{payloadMost, client}
 use Rattle.buffers.specs.Bytes.{Bytes, zeros}
 use Rattle.wire.specs.Strings.{string, strings}
 use Rattle.mpint.specs.Mpint.{mpint, readMpint}
@@ -29,7 +30,7 @@ pub record Example : Type 0 where
 
 -- what the examples leave open: the digest in P3; the other bytes of X, 31 in P4 and P5 and 30 in P6 and P7; the two's complement bytes
 -- that stand for -128 and for -129; in P12 the method, K_S, S and what is left of the third length
-pub record Choice : Type 0 where
+pub record Blanks : Type 0 where
   pub b : ℕ
   pub r : List ℕ
   pub r-length : length r ≡ 30
@@ -46,7 +47,7 @@ pub record Choice : Type 0 where
   pub s : List ℕ
   pub cut : List ℕ
   pub cut-length : length cut ≤ 3
-  pub reply-length : length ((31 ∷ []) ++ (strings (ks ∷ s ∷ []) ++ cut)) ≤ 32768
+  pub reply-length : length ((31 ∷ []) ++ (strings (ks ∷ s ∷ []) ++ cut)) ≤ payloadMost
 
 -- K from X in a method of numbers
 abbrev pub kIn : ℕ → List ℕ → List ℕ
@@ -56,15 +57,15 @@ kIn method x = kBytes (rowOf method .«k_form») x []
 abbrev pub bodyIs : ℕ → List ℕ → Result
 bodyIs n k = body (length k - 4) (take n (drop 4 k))
 
-abbrev pub examples : Choice → List Example
+abbrev pub examples : Blanks → List Example
 examples o =
     -- P1: X of 32 bytes, all zero but a last 1
     record { found = bytes (kIn 4 (zeros 31 ++ 1 ∷ [])); stated = bytes (0 ∷ 0 ∷ 0 ∷ 1 ∷ 1 ∷ []) }
     -- P2: X of 32 zero bytes
     ∷ record { found = bytes (kIn 4 (zeros 32)); stated = bytes (0 ∷ 0 ∷ 0 ∷ 0 ∷ []) }
     -- P3: X of 32 zero bytes, methods 1 and 9
-    ∷ record { found = refused (secretCause 1 1 (Given 32) (zeros 32) Absent [] [] []); stated = refused 16 }
-    ∷ record { found = refused (secretCause 1 9 (Given 32) (zeros 32) Done (o .digest) [] []); stated = refused 16 }
+    ∷ record { found = refused (secretCause client 1 (Given 32) (zeros 32) Absent [] [] []); stated = refused 16 }
+    ∷ record { found = refused (secretCause client 9 (Given 32) (zeros 32) Done (o .digest) [] []); stated = refused 16 }
     -- P4: first byte 7f
     ∷ record { found = bodyIs 1 (kIn 4 (0x7f ∷ o .b ∷ o .r)); stated = body 32 (0x7f ∷ []) }
     -- P5: first byte 80

@@ -1,6 +1,6 @@
 -- `boundary::castulfrisa_method_sizes` meets its contract. Assumes nothing.
 use borrow.Author.Needs.{needs}
-use Rattle.boundary.proofs.ExportLaws.{sizes-of}
+use Rattle.boundary.proofs.SizeLaws.{sizes-of}
 use Rattle.boundary.proofs.castulfrisa_method_sizes.Statement.{statement}
 use Rattle.boundary.proofs.castulfrisa_method_sizes.Tie as tie
 

@@ -2,7 +2,7 @@
 use mathlib.Core.Path.{ap}
 use denote.Ref.{now}
 use Rattle.wire.proofs.PartLaws.{part-read}
-use Rattle.choice.specs.Common.{any}
+use Rattle.common.specs.Common.{any}
 use Rattle.choice.specs.declared.Choice.{Choice}
 use Rattle.choice.proofs.ChoiceLaws.{host-key-within}
 use Rattle.choice.proofs.host_key_name.Statement.{statement}

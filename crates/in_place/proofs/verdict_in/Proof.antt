@@ -1,4 +1,4 @@
--- `in_place::verdict_in` meets its contract: a walk of its MIR, by hand. Of `steps::verdict` it takes that it meets its own. Assumes nothing.
+-- `in_place::verdict_in` meets its contract: a walk of its MIR, by hand. Of `client::verdict` it takes that it meets its own. Assumes nothing.
 use mathlib.Core.Path.{_≡_, refl, ap}
 use Prim.Native.Nat.{ℕ}
 use mathlib.Core.List.{[], _∷_, List}
@@ -39,17 +39,17 @@ use denote.Exit.{yes}
 use denote.Signature.{plain}
 use Rattle.exchange.specs.declared.Step.{Step}
 use Rattle.exchange.specs.Steps.{Call, verdict, answered, roomAfter, number, outputAfter}
-use Rattle.in_place.specs.InPlace.{answerOf, told}
+use Rattle.in_place.specs.InPlace.{countsOf}
 use Rattle.exchange.proofs.Exchange as X
 use Rattle.exchange.proofs.Exchange.Laws as X′
 use Rattle.exchange.proofs.Step as S
 use Rattle.exchange.proofs.Step.Laws as S′
-use Rattle.in_place.proofs.Answer as R
-use Rattle.in_place.proofs.Answer.Laws as R′
+use Rattle.in_place.proofs.Counts as R
+use Rattle.in_place.proofs.Counts.Laws as R′
 use Rattle.in_place.proofs.Lent.{mach, mach-r, answers, Lent, asked, handed, opened, closed, returned}
-use Rattle.steps.proofs.verdict as step
-use Rattle.steps.proofs.verdict.Symbol as step-def
-use Rattle.steps.proofs.verdict.Met as step-thm
+use Rattle.client.proofs.verdict as step
+use Rattle.client.proofs.verdict.Symbol as step-def
+use Rattle.client.proofs.verdict.Met as step-thm
 use Rattle.in_place.proofs.verdict_in.Key.{name as #own}
 use Rattle.in_place.proofs.verdict_in as f
 use Rattle.in_place.proofs.verdict_in.Statement as stated
@@ -89,19 +89,19 @@ module _ {M : Type 1} (𝓤 : URA M) (H : Heap 𝓤) (A : Atoms 𝓤) (W : Given
   last = lasts step.ended κs a
 
   abbrev Said : Step → Last → Type 0
-  Said r zs = let q : Call = verdict (a .1 .1 .0) (a .1 .1 .1 .0) (a .1 .1 .1 .1 .0 .now) in (r ≡ answered (a .0) (a .1 .0 .now) q) × (zs .1 .0 ≡ roomAfter (a .0) (a .1 .0 .now) q) × (zs .1 .1 .1 .1 .0 ≡ outputAfter (number (a .0) (a .1 .0 .now) q) (a .1 .1 .1 .1 .0 .now) (a .0 .k))
+  Said r zs = let q : Call = verdict (a .1 .1 .0) (a .1 .1 .1 .0) (length (a .1 .1 .1 .1 .0 .now)) in (r ≡ answered (a .0) (a .1 .0 .now) q) × (zs .1 .0 ≡ roomAfter (a .0) (a .1 .0 .now) q) × (zs .1 .1 .1 .1 .0 ≡ outputAfter (number (a .0) (a .1 .0 .now) q) (a .1 .1 .1 .1 .0 .now) (a .0 .k))
 
   abbrev back : Val → Item 𝓤
   back w = handed Toks (λ r. S.the-row .own r (w ∷ [])) last Said
 
-  exits : (r : Step) (zs : Last) → Said r zs → Is R.the-row (answerOf r) (mach-r (answerOf r) ∷ []) → ent 𝓤 (⋆ 𝓤 H A (‵ (Lent κ γ (r .exchange) b o) ∷ ‵ (flft κ q) ∷ ‵ (last zs) ∷ Toks ∷ [])) (Post (mach-r (answerOf r)))
+  exits : (r : Step) (zs : Last) → Said r zs → Is R.the-row (countsOf r) (mach-r (countsOf r) ∷ []) → ent 𝓤 (⋆ 𝓤 H A (‵ (Lent κ γ (r .exchange) b o) ∷ ‵ (flft κ q) ∷ ‵ (last zs) ∷ Toks ∷ [])) (Post (mach-r (countsOf r)))
   exits r zs told is =
       qed W (‵ (Lent κ γ (r .exchange) b o) ∷ ‵ (flft κ q) ∷ ‵ (last zs) ∷ Toks ∷ []) ∵
       move ! (2 ∷ []) $ fsplit ! $ drop ! $ fsplit ! $ fsplit ! $ move ! (1 ∷ []) $ feqL ! (λ l. move ! (1 ∷ []) $ fsplit ! $ drop ! $ fsplit ! $ drop ! $ fsplit ! $ fsplit ! $ move ! (1 ∷ []) $ feqL ! (λ l′.
-      suffices ! _ (ends-at 𝓤 H A f.ended stayed (f.clauses 𝓤 H A mem run) W y (mach-r (answerOf r)) (answerOf r) (r .exchange, (zs .1 .0, (tt, (tt, (zs .1 .1 .1 .1 .0, tt))))) (tt, (l, (tt, (tt, (l′, tt)))))) $
-      says ! (ap answerOf (told .0), ap (λ (z : Step). z .exchange) (told .0), told .1, told .2) $
+      suffices ! _ (ends-at 𝓤 H A f.ended stayed (f.clauses 𝓤 H A mem run) W y (mach-r (countsOf r)) (countsOf r) (r .exchange, (zs .1 .0, (tt, (tt, (zs .1 .1 .1 .1 .0, tt))))) (tt, (l, (tt, (tt, (l′, tt)))))) $
+      says ! (ap countsOf (told .0), ap (λ (z : Step). z .exchange) (told .0), told .1, told .2) $
       move ! (4 ∷ 5 ∷ []) $ join ! $ frame ! $ fjoin ! $ nothing ! $ fjoin ! $ nothing ! $ fjoin ! $ move ! (1 ∷ 0 ∷ []) $ fjoin ! $ move ! (1 ∷ 0 ∷ []) $ fjoin ! $
-      owned ! R.the-row (Is R.the-row) (LL.makes R.the-type R′.the-plain 𝓤 H A) (answerOf r) _ is $ move ! (1 ∷ 0 ∷ []) $ done !))
+      owned ! R.the-row (Is R.the-row) (LL.makes R.the-type R′.the-plain 𝓤 H A) (countsOf r) _ is $ move ! (1 ∷ 0 ∷ []) $ done !))
 
   module _ (C : Calls 𝓤 H) (Λ : Loops 𝓤 H) (fm : FmC 𝓤 H (W .laws) C) (met : Triple 𝓤 (C step-def.name) (ByValue 𝓤 H A mem run)) where
     known : ent 𝓤 (mean 𝓤 H A (asked Toks (a .0) rest)) (C step-def.name (mach (a .0) ∷ s (a .1 .0) ∷ vbool (a .1 .1 .0) ∷ vbool (a .1 .1 .1 .0) ∷ s (a .1 .1 .1 .1 .0) ∷ []) (λ w. mean 𝓤 H A (back w)))
@@ -129,7 +129,7 @@ module _ {M : Type 1} (𝓤 : URA M) (H : Heap 𝓤) (A : Atoms 𝓤) (W : Given
         let fields = LL.owed S.the-type S′.the-laws r _ is in
         assigns ! (of-opd ! (load ! (from ! (fld ! refl (stop !))) (look-in ! 16 (sub ! 3 refl (whole !))))) (from ! (hop ! (look ! 26 refl) (stop !))) (store-raw ! 2 refl (LL.lawful X.the-type X′.the-laws 𝓤 H A W .typed (r .exchange) _ (fields .1 .1 .1 .0) .0)) $
         assigns ! (agg ! (and-then ! (load ! (from ! (fld ! refl (stop !))) (look-in ! 16 (sub ! 0 refl (whole !)))) (and-then ! (load ! (from ! (fld ! refl (stop !))) (look-in ! 16 (sub ! 1 refl (whole !)))) (and-then ! (load ! (from ! (fld ! refl (stop !))) (look-in ! 16 (sub ! 2 refl (whole !)))) (no-more !)))))
-        (from ! (stop !)) (init ! 28 refl (LL.lawful R.the-type R′.the-laws 𝓤 H A W .typed (answerOf r) _ (answers r w is) .0)) $
+        (from ! (stop !)) (init ! 28 refl (LL.lawful R.the-type R′.the-laws 𝓤 H A W .typed (countsOf r) _ (answers r w is) .0)) $
         move ! (2 ∷ 3 ∷ 4 ∷ 5 ∷ []) $ closed ! tt (r .exchange) b o (fields .1 .1 .1 .0) $
         returns ! (look ! 26 refl) $ forget ! 4 refl $ forget ! 6 refl $ forget ! 8 refl $ forget ! 10 refl $ forget ! 12 refl $ forget ! 14 refl $ forget ! 16 refl $ forget ! 18 refl $ forget ! 20 refl $ forget ! 22 refl $ forget ! 24 refl $ forget ! 26 refl $
         move ! (26 ∷ 27 ∷ []) $ free1 ! $ move ! (24 ∷ 25 ∷ []) $ free1 ! $ move ! (22 ∷ 23 ∷ []) $ free1 ! $ move ! (20 ∷ 21 ∷ []) $ free1 ! $ move ! (18 ∷ 19 ∷ []) $ free1 ! $ move ! (16 ∷ 17 ∷ []) $ free1 ! $ move ! (14 ∷ 15 ∷ []) $ free1 ! $ move ! (12 ∷ 13 ∷ []) $ free1 ! $ move ! (10 ∷ 11 ∷ []) $ free1 ! $ move ! (8 ∷ 9 ∷ []) $ free1 ! $ move ! (6 ∷ 7 ∷ []) $ free1 ! $ move ! (4 ∷ 5 ∷ []) $ free1 ! $ free0 ! $
@@ -154,4 +154,4 @@ verdict-in-spec 𝓤 H 𝓜 𝓖 𝓡 =
     entered 𝓤 H (tripleOf 𝓤 H (𝓖 .A) f.signature (f.spec 𝓤 H (𝓖 .A) (𝓜 .mem) (𝓡 .run)))
     (tables 𝓤 H 𝓜 𝓡 code.env .C) (tables 𝓤 H 𝓜 𝓡 code.env .Λ) #own code.function (code.unfolded 𝓤 H 𝓜 𝓡)
     (meets 𝓤 H (𝓖 .A) (givenOf 𝓤 H 𝓜 𝓖) (𝓜 .mem) (𝓡 .run) (tablesOf 𝓤 H 𝓜 (tables 𝓤 H 𝓜 𝓡 code.env))
-    (cited 𝓤 H (ByValue 𝓤 H (𝓖 .A) (𝓜 .mem) (𝓡 .run)) 𝓜 𝓡 code.env step-def.name step-def.routine code.calls-steps·verdict (step-thm.met 𝓤 H 𝓜 𝓖 𝓡)))
+    (cited 𝓤 H (ByValue 𝓤 H (𝓖 .A) (𝓜 .mem) (𝓡 .run)) 𝓜 𝓡 code.env step-def.name step-def.routine code.calls-client·verdict (step-thm.met 𝓤 H 𝓜 𝓖 𝓡)))

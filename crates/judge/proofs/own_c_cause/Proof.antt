@@ -4,7 +4,8 @@ use mathlib.Core.Path.{ap, _∙_}
 use denote.Ref.{now}
 use Rattle.methods.specs.declared.Method.{Method}
 use Rattle.methods.specs.Form.{formed}
-use Rattle.judge.proofs.JudgeLaws.{holds, fails, own-c-form, own-c-short, own-c-good}
+use Rattle.limits.proofs.BoolLaws.{holds, fails}
+use Rattle.judge.proofs.JudgeLaws.{own-c-form, own-c-short, own-c-good}
 use Rattle.judge.proofs.own_c_cause.Statement.{statement}
 use Rattle.judge.proofs.own_c_cause.Tie as tie
 

@@ -1,7 +1,8 @@
 -- `judge::start_cause` meets its contract. Assumes nothing.
 use borrow.Author.Needs.{needs}
 use denote.Ref.{now}
-use Rattle.judge.proofs.JudgeLaws.{holds, fails, start-low, start-high, start-role-low, start-role-high, start-room, start-field, start-good}
+use Rattle.limits.proofs.BoolLaws.{holds, fails}
+use Rattle.judge.proofs.JudgeLaws.{start-low, start-high, start-role-low, start-role-high, start-room, start-field, start-good}
 use Rattle.judge.proofs.start_cause.Statement.{statement}
 use Rattle.judge.proofs.start_cause.Tie as tie
 

@@ -16,9 +16,10 @@ part-of-requires c κs = search needs
 
 returns : tie.Need-returns
 returns c =
-    let s = c .before .before .before .before .args .payload in
-    let o = c .before .before .open-list in
-    part-read _ (now s) s (c .part-of .result) (o .result .cookie) _ (ap (λ (x : Opened). x .cookie) (o .ensures)) (cookie-within (now s) (c .before .before .before .before .args .n)) (c .part-of .ensures)
+    let o = c .before .before .before in
+    let z = o .before .before in
+    let s = z .args .payload in
+    part-read _ (now s) s (c .part-of .result) (o .open-list .result .head .cookie) _ (ap (λ (x : Opened). x .head .cookie) (o .open-list .ensures)) (cookie-within (now s) (z .args .n)) (c .part-of .ensures)
 
 pub cookie-of-spec : {M : Type 1} → statement M
 cookie-of-spec = tie.close (tie.spec open-list-requires part-of-requires returns)

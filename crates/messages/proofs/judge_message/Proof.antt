@@ -1,58 +1,178 @@
 -- `messages::judge_message` meets its contract. Assumes nothing.
 use borrow.Author.Needs.{needs}
-use mathlib.Core.Path.{_≡_, sym, ap, _∙_}
+use mathlib.Core.Path.{_≡_, refl, sym, ap, _∙_}
 use native.Mathlib.Omega.{arith}
 use denote.Ref.{now}
 use Rattle.wire.specs.Strings.{walk}
 use Rattle.wire.specs.declared.Walk.{Walk}
-use Rattle.messages.proofs.MessageLaws.{message-empty, message-long, message-other, message-cut, message-more, message-good}
+use Rattle.messages.specs.Payload.{stringsEnd}
+use Rattle.messages.proofs.PayloadLaws.{fit-not-strings, fit-not-behind, fit-is, cause-empty, cause-long, cause-other, cause-cut, cause-more, cause-none, judged-refused, judged-good}
 use Rattle.messages.proofs.judge_message.Statement.{statement}
 use Rattle.messages.proofs.judge_message.Tie as tie
 
+refused-requires : tie.Need-refused-requires
+refused-requires c κs = search needs
+
 returns : tie.Need-returns
-returns c = let a = c .before .before .args in message-empty (a .byte) (a .k) (now (a .payload)) (c .if1 .taken)
+returns c =
+    let t = c .before in
+    let z = t .before .before in
+    let l = z .args .l in
+    let p = now (z .args .payload) in
+    judged-refused l p _ 10 (c .refused .ensures) (cause-empty l p (t .if1 .taken)) refl
+
+refused-requires-2 : tie.Need-refused-requires-2
+refused-requires-2 c κs = search needs
 
 returns-2 : tie.Need-returns-2
 returns-2 c =
-    let a = c .before .before .before .args in message-long (a .byte) (a .k) (now (a .payload)) (c .if2 .taken)
+    let t = c .before in
+    let e1 = t .before .before in
+    let z = e1 .before .before in
+    let l = z .args .l in
+    let p = now (z .args .payload) in
+    judged-refused l p _ 10 (c .refused2 .ensures) (cause-long l p (t .if2 .taken)) refl
 
 shared-slice-read-if3 : tie.Need-shared-slice-read-if3
 shared-slice-read-if3 c = search needs
 
+refused-requires-3 : tie.Need-refused-requires-3
+refused-requires-3 c κs = search needs
+
 returns-3 : tie.Need-returns-3
 returns-3 c =
-    let a = c .before .before .before .before .before .args in message-other (a .byte) (a .k) (now (a .payload)) (c .before .before .before .if1 .left) (c .before .before .if2 .left) (c .if3 .taken)
+    let t = c .before in
+    let e2 = t .before .before .before in
+    let e1 = e2 .before .before in
+    let z = e1 .before .before in
+    let l = z .args .l in
+    let p = now (z .args .payload) in
+    judged-refused l p _ 11 (c .refused3 .ensures) (cause-other l p (e1 .if1 .left) (e2 .if2 .left) (t .if3 .taken)) refl
 
 skip-strings-requires : tie.Need-skip-strings-requires
 skip-strings-requires c κs = search needs
 
+refused-requires-4 : tie.Need-refused-requires-4
+refused-requires-4 c κs = search needs
+
 returns-4 : tie.Need-returns-4
 returns-4 c =
-    let a = c .before .before .before .before .before .before .before .before .args in
-    let w = c .before .before .skip-strings .ensures in
-    message-cut (a .byte) (a .k) (now (a .payload)) (c .before .before .before .before .before .before .if1 .left) (c .before .before .before .before .before .if2 .left) (c .before .before .before .if3 .left) (λ e. c .if4 .taken (ap (λ (x : Walk). x .number) w ∙ e))
+    let t = c .before in
+    let s = t .before .before in
+    let e3 = s .before in
+    let e2 = e3 .before .before .before in
+    let e1 = e2 .before .before in
+    let z = e1 .before .before in
+    let l = z .args .l in
+    let p = now (z .args .payload) in
+    let w = s .skip-strings .ensures in
+    let n : walk p (l .first) (l .count) .number ≡ s .skip-strings .result .number = sym (ap (λ (x : Walk). x .number) w) in
+    let q : s .skip-strings .result .place ≡ stringsEnd l p = ap (λ (x : Walk). x .place) w in
+    judged-refused l p _ 12 (c .refused4 .ensures) (cause-cut l p (e1 .if1 .left) (e2 .if2 .left) (e3 .if3 .left) (fit-not-strings l p (λ (x : walk p (l .first) (l .count) .number ≡ 0). t .if4 .taken (sym n ∙ x)))) refl
+
+refused-requires-5 : tie.Need-refused-requires-5
+refused-requires-5 c κs = search needs
 
 returns-5 : tie.Need-returns-5
 returns-5 c =
-    let a = c .before .before .before .before .before .before .before .before .before .before .args in
-    let w = c .before .before .before .before .skip-strings .ensures in
-    message-more (a .byte) (a .k) (now (a .payload)) (c .before .before .before .before .before .before .before .before .if1 .left) (c .before .before .before .before .before .before .before .if2 .left) (c .before .before .before .before .before .if3 .left) (sym (ap (λ (x : Walk). x .number) w) ∙ c .before .before .if4 .left) (rw (ap (λ (x : Walk). x .place) w) at (c .if5 .taken))
+    let t = c .before in
+    let e4 = t .before in
+    let s = e4 .before .before in
+    let e3 = s .before in
+    let e2 = e3 .before .before .before in
+    let e1 = e2 .before .before in
+    let z = e1 .before .before in
+    let l = z .args .l in
+    let p = now (z .args .payload) in
+    let w = s .skip-strings .ensures in
+    let n : walk p (l .first) (l .count) .number ≡ s .skip-strings .result .number = sym (ap (λ (x : Walk). x .number) w) in
+    let q : s .skip-strings .result .place ≡ stringsEnd l p = ap (λ (x : Walk). x .place) w in
+    judged-refused l p _ 12 (c .refused5 .ensures) (cause-cut l p (e1 .if1 .left) (e2 .if2 .left) (e3 .if3 .left) (fit-not-behind l p (omega (arith, t .if5 .taken)))) refl
+
+sub-if6 : tie.Need-sub-if6
+sub-if6 c = search needs
+
+refused-requires-6 : tie.Need-refused-requires-6
+refused-requires-6 c κs = search needs
 
 returns-6 : tie.Need-returns-6
 returns-6 c =
-    let a = c .before .before .before .before .before .before .before .before .before .before .args in
-    let w = c .before .before .before .before .skip-strings .ensures in
-    message-good (a .byte) (a .k) (now (a .payload)) (c .before .before .before .before .before .before .before .before .if1 .left) (c .before .before .before .before .before .before .before .if2 .left) (c .before .before .before .before .before .if3 .left) (sym (ap (λ (x : Walk). x .number) w) ∙ c .before .before .if4 .left) (rw (ap (λ (x : Walk). x .place) w) at (c .if5 .left))
+    let t = c .before in
+    let e5 = t .before .before in
+    let e4 = e5 .before in
+    let s = e4 .before .before in
+    let e3 = s .before in
+    let e2 = e3 .before .before .before in
+    let e1 = e2 .before .before in
+    let z = e1 .before .before in
+    let l = z .args .l in
+    let p = now (z .args .payload) in
+    let w = s .skip-strings .ensures in
+    let n : walk p (l .first) (l .count) .number ≡ s .skip-strings .result .number = sym (ap (λ (x : Walk). x .number) w) in
+    let q : s .skip-strings .result .place ≡ stringsEnd l p = ap (λ (x : Walk). x .place) w in
+    judged-refused l p _ 12 (c .refused6 .ensures) (cause-cut l p (e1 .if1 .left) (e2 .if2 .left) (e3 .if3 .left) (fit-not-behind l p (omega (arith, t .if6 .taken, e5 .if5 .left)))) refl
+
+sub-if7 : tie.Need-sub-if7
+sub-if7 c = search needs
+
+refused-requires-7 : tie.Need-refused-requires-7
+refused-requires-7 c κs = search needs
+
+returns-7 : tie.Need-returns-7
+returns-7 c =
+    let t = c .before in
+    let e6 = t .before .before in
+    let e5 = e6 .before .before in
+    let e4 = e5 .before in
+    let s = e4 .before .before in
+    let e3 = s .before in
+    let e2 = e3 .before .before .before in
+    let e1 = e2 .before .before in
+    let z = e1 .before .before in
+    let l = z .args .l in
+    let p = now (z .args .payload) in
+    let w = s .skip-strings .ensures in
+    let n : walk p (l .first) (l .count) .number ≡ s .skip-strings .result .number = sym (ap (λ (x : Walk). x .number) w) in
+    let q : s .skip-strings .result .place ≡ stringsEnd l p = ap (λ (x : Walk). x .place) w in
+    judged-refused l p _ 13 (c .refused7 .ensures) (cause-more l p (e1 .if1 .left) (e2 .if2 .left) (e3 .if3 .left) (fit-is l p (n ∙ e4 .if4 .left) (omega (arith, e6 .if6 .left, e5 .if5 .left))) (omega (arith, t .if7 .taken, e5 .if5 .left))) refl
+
+returns-8 : tie.Need-returns-8
+returns-8 c =
+    let e6 = c .before .before in
+    let e5 = e6 .before .before in
+    let e4 = e5 .before in
+    let s = e4 .before .before in
+    let e3 = s .before in
+    let e2 = e3 .before .before .before in
+    let e1 = e2 .before .before in
+    let z = e1 .before .before in
+    let l = z .args .l in
+    let p = now (z .args .payload) in
+    let w = s .skip-strings .ensures in
+    let n : walk p (l .first) (l .count) .number ≡ s .skip-strings .result .number = sym (ap (λ (x : Walk). x .number) w) in
+    let q : s .skip-strings .result .place ≡ stringsEnd l p = ap (λ (x : Walk). x .place) w in
+    judged-good l p _ q (cause-none l p (e1 .if1 .left) (e2 .if2 .left) (e3 .if3 .left) (fit-is l p (n ∙ e4 .if4 .left) (omega (arith, e6 .if6 .left, e5 .if5 .left))) (omega (arith, c .if7 .left, e5 .if5 .left)))
 
 pub judge-message-spec : {M : Type 1} → statement M
 judge-message-spec =
     tie.close
     (tie.spec
+    refused-requires
     returns
+    refused-requires-2
     returns-2
     shared-slice-read-if3
+    refused-requires-3
     returns-3
     skip-strings-requires
+    refused-requires-4
     returns-4
+    refused-requires-5
     returns-5
-    returns-6)
+    sub-if6
+    refused-requires-6
+    returns-6
+    sub-if7
+    refused-requires-7
+    returns-7
+    returns-8)

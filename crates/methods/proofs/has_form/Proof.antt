@@ -1,7 +1,7 @@
 -- `methods::has_form` meets its contract. Assumes nothing.
 use borrow.Author.Needs.{needs}
-use mathlib.Core.Path.{_≡_, sym, ap, _∙_}
-use mathlib.Core.Bool.{Bool, true, false, _&&_}
+use mathlib.Core.Path.{sym, ap, _∙_}
+use mathlib.Core.Bool.{Bool, _&&_}
 use denote.Ref.{now}
 use Rattle.methods.specs.Form.{leadFits, formed}
 use Rattle.methods.proofs.has_form.Statement.{statement}

@@ -1,5 +1,4 @@
 -- `methods::method_of` meets its contract. Assumes nothing.
-use mathlib.Core.Path.{refl}
 use Rattle.methods.specs.Rows.{rows, rowOf}
 use Rattle.methods.proofs.MethodLaws.{row-none}
 use Rattle.methods.proofs.method_of.Statement.{statement}

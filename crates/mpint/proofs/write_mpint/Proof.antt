@@ -1,12 +1,12 @@
 -- `mpint::write_mpint` meets its contract. Assumes nothing.
 use borrow.Author.Needs.{needs}
 use Prim.Native.Nat.{ℕ}
-use mathlib.Core.Path.{_≡_, refl, sym, ap, _∙_}
+use mathlib.Core.Path.{ap, _∙_}
 use mathlib.Core.List.{List}
 use lib.ListN.{length}
 use denote.Ref.{now}
-use Rattle.wire.specs.Strings.{string, stringCause}
-use Rattle.wire.specs.Writers.{wrote, leaves}
+use Rattle.wire.specs.Strings.{string}
+use Rattle.writers.specs.Writers.{wrote, leaves, stringCause}
 use Rattle.buffers.proofs.ByteLaws.{tail-part}
 use Rattle.mpint.proofs.write_mpint.Statement.{statement}
 use Rattle.mpint.proofs.write_mpint.Tie as tie

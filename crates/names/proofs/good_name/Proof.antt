@@ -1,11 +1,12 @@
 -- `names::good_name` meets its contract. Assumes nothing.
-use Prim.Native.Nat.{ℕ, _+_, _-_, _≤_, _<_}
-use mathlib.Core.Path.{_≡_, refl, sym, ap, _∙_}
-use mathlib.Core.Bool.{Bool, true, false, _&&_}
+use Prim.Native.Nat.{_+_, _-_, _≤_, _<_}
+use mathlib.Core.Path.{_≡_, sym, ap, _∙_}
+use mathlib.Core.Bool.{Bool, false, _&&_}
 use native.Mathlib.Omega.{arith}
 use lib.ListN.{length, getD, drop, drop-of-length-le}
 use denote.Ref.{now}
-use Rattle.names.specs.Names.{nameByte, every, goodName}
+use Rattle.limits.specs.Every.{every}
+use Rattle.names.specs.Names.{nameByte, goodName}
 use Rattle.names.proofs.NameLaws.{every-at, byte-low, byte-high, byte-comma, byte-good, good-empty, good-long, good-bytes}
 use Rattle.names.proofs.good_name.Statement.{statement}
 use Rattle.names.proofs.good_name.Tie as tie

@@ -3,7 +3,7 @@ use borrow.Author.Needs.{needs}
 use lib.ListN.{length}
 use denote.Ref.{now}
 use Rattle.wire.proofs.PartLaws.{part-read}
-use Rattle.parts.proofs.StepPartLaws.{part-within}
+use Rattle.parts.proofs.StepPartLaws.{step-part-within}
 use Rattle.exchange.specs.Steps.{reply, stepPart}
 use Rattle.parts.proofs.reply_s.Statement.{statement}
 use Rattle.parts.proofs.reply_s.Tie as tie
@@ -18,7 +18,7 @@ returns : tie.Need-returns
 returns c =
     let a = c .before .before .before .before .args in
     let p = now (a .payload) in
-    part-read (length p) p (a .payload) (c .part-of .result) (c .before .reply-part .result) (stepPart (a .e) (now (a .room)) (reply p) p 1) (c .before .reply-part .ensures) (part-within (a .e) (now (a .room)) (reply p) p 1) (c .part-of .ensures)
+    part-read (length p) p (a .payload) (c .part-of .result) (c .before .reply-part .result) (stepPart (a .e) (now (a .room)) (reply p) p 1) (c .before .reply-part .ensures) (step-part-within (a .e) (now (a .room)) (reply p) p 1) (c .part-of .ensures)
 
 pub reply-s-spec : {M : Type 1} → statement M
 reply-s-spec = tie.close (tie.spec reply-part-requires part-of-requires returns)

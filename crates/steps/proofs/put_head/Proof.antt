@@ -1,7 +1,7 @@
 -- `steps::put_head` meets its contract. Assumes nothing.
 use borrow.Author.Needs.{needs}
 use denote.Ref.{now}
-use Rattle.steps.proofs.LeafLaws.{head-laid}
+use Rattle.steps.proofs.StartLaws.{head-laid}
 use Rattle.steps.proofs.put_head.Statement.{statement}
 use Rattle.steps.proofs.put_head.Tie as tie
 

@@ -2,7 +2,7 @@
 use borrow.Author.Needs.{needs}
 use native.Mathlib.Omega.{arith}
 use denote.Ref.{now}
-use Rattle.steps.proofs.LeafLaws.{start-refused, start-fits, start-accepted}
+use Rattle.steps.proofs.StartLaws.{start-refused, start-fits, start-accepted}
 use Rattle.steps.proofs.start.Statement.{statement}
 use Rattle.steps.proofs.start.Tie as tie
 

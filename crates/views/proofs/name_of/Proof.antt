@@ -114,7 +114,7 @@ module _ {M : Type 1} (𝓤 : URA M) (H : Heap 𝓤) (A : Atoms 𝓤) (W : Given
   L = T′.the-laws (namedLft 1 0 tt (κ, tt))
 
   abbrev vd : Values (D .parts)
-  vd = (d .payload, (d .cursor, (d .opened, tt)))
+  vd = (d .payload, (d .cursor, (d .head, tt)))
 
   -- what the callee is passed
   abbrev passed : Vals part-of.signature (κ, tt)

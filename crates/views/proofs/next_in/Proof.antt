@@ -94,7 +94,7 @@ module _ {M : Type 1} (𝓤 : URA M) (H : Heap 𝓤) (A : Atoms 𝓤) (W : Given
 
   -- the view with another cursor
   abbrev moved : Cursor → View
-  moved c = record { payload = h .payload; cursor = c; opened = h .opened }
+  moved c = record { payload = h .payload; cursor = c; head = h .head }
 
   abbrev Post : Val → SProp 𝓤
   Post = walkOf 𝓤 H A f.ended stayed (f.clauses 𝓤 H A at-mem run) .post (((κ, (κ′, tt)), (q, (q′, tt)), bounds, x, at), tt)
@@ -106,7 +106,7 @@ module _ {M : Type 1} (𝓤 : URA M) (H : Heap 𝓤) (A : Atoms 𝓤) (W : Given
   L = T′.the-laws (α κ′)
 
   abbrev vd : Values (D .parts)
-  vd = (h .payload, (h .cursor, (h .opened, tt)))
+  vd = (h .payload, (h .cursor, (h .head, tt)))
 
   abbrev Own : View → Fml
   Own d = B κ′ .own d (T′.lowered d ∷ [])

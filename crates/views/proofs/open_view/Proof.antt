@@ -1,4 +1,4 @@
--- `views::open_view` meets its contract: a walk of its MIR, by hand. `open_list` is called on the slice and the list's number, and the view is made of the slice, and of the cursor and the record that the callee gave. Assumes nothing.
+-- `views::open_view` meets its contract: a walk of its MIR, by hand. `open_list` is called on the slice and the list's number, and the view is made of the slice, and of the cursor and the head that the callee gave. Assumes nothing.
 use mathlib.Core.Path.{_≡_, refl, ap}
 use Prim.Native.Nat.{ℕ, _<_, _^_}
 use mathlib.Core.List.{List, [], _∷_}
@@ -38,11 +38,14 @@ use denote.Triple.Table.{entered, cited}
 use denote.Triple.Walked.{says, Stays, stay-none, stay-none-slice, walkOf, goes-none, goes-none-slice, Walks, ends-at, walked, walk-meets}
 use denote.Exit.{yes}
 use Rattle.kexinit.specs.Reader.{openList}
+use Rattle.kexinit.specs.declared.Head.{Head}
 use Rattle.kexinit.specs.declared.Opened.{Opened}
 use Rattle.names.specs.declared.Cursor.{Cursor}
 use Rattle.views.specs.declared.View.{View}
 use Rattle.names.proofs.Cursor as C
 use Rattle.names.proofs.Cursor.Laws as C′
+use Rattle.kexinit.proofs.Head as Hd
+use Rattle.kexinit.proofs.Head.Laws as Hd′
 use Rattle.kexinit.proofs.Opened as O
 use Rattle.kexinit.proofs.Opened.Laws as O′
 use Rattle.views.proofs.View as T
@@ -66,8 +69,8 @@ OpenList 𝓤 H A mem run = tripleOf 𝓤 H A open-list.signature (open-list.spe
 abbrev vals-c : Cursor → List Val
 vals-c = LL.vals C.the-type C′.the-laws
 
-abbrev vals-o : Opened → List Val
-vals-o = LL.vals O.the-type O′.the-laws
+abbrev vals-h : Head → List Val
+vals-h = LL.vals Hd.the-type Hd′.the-laws
 
 module _ {M : Type 1} (𝓤 : URA M) (H : Heap 𝓤) (A : Atoms 𝓤) (W : Given 𝓤 H A) (mem : Memory → SProp 𝓤) (run : Routine → Fun 𝓤) (κ : Lft) (q : Share) (s : RefT (List ℕ)) (n : ℕ) (n-fits : n < 2 ^ 64) where
   abbrev α : NamedLft
@@ -78,7 +81,7 @@ module _ {M : Type 1} (𝓤 : URA M) (H : Heap 𝓤) (A : Atoms 𝓤) (W : Given
 
   -- the view that is made
   abbrev made : Opened → View
-  made o = record { payload = s; cursor = o .cursor; opened = o }
+  made o = record { payload = s; cursor = o .cursor; head = o .head }
 
   abbrev Arg : Type 0
   Arg = RefT (List ℕ) × (ℕ × Unit {0})
@@ -111,32 +114,33 @@ module _ {M : Type 1} (𝓤 : URA M) (H : Heap 𝓤) (A : Atoms 𝓤) (W : Given
   said : (r : Opened) → ent 𝓤 (ensured 𝓤 H A open-list.ended (open-list.clauses 𝓤 H A mem run) (κ, tt) a tt r) (fact 𝓤 (r ≡ openList (now s) n))
   said r = exE 𝓤 _ (λ ws. snd∗ 𝓤 (sem 𝓤 H A (lasts open-list.ended (κ, tt) a ws)) (fact 𝓤 (r ≡ openList (now s) n)))
 
-  exits : (r : Opened) → r ≡ openList (now s) n → Is C.the-row (r .cursor) (vals-c (r .cursor)) → Is O.the-row r (vals-o r) → ent 𝓤 (sep 𝓤 (sep 𝓤 (A .lft κ q) (sem 𝓤 H A ftrue)) (sem 𝓤 H A Own)) (Post (T′.lowered (made r)))
-  exits r e isC isO =
+  exits : (r : Opened) → r ≡ openList (now s) n → Is C.the-row (r .cursor) (vals-c (r .cursor)) → Is Hd.the-row (r .head) (vals-h (r .head)) → ent 𝓤 (sep 𝓤 (sep 𝓤 (A .lft κ q) (sem 𝓤 H A ftrue)) (sem 𝓤 H A Own)) (Post (T′.lowered (made r)))
+  exits r e isC isH =
       qed W ((‵ (flft κ q) ⊛ ‵ ftrue) ∷ ‵ Own ∷ []) ∵
       suffices ! _ (ends-at 𝓤 H A f.ended stayed (f.clauses 𝓤 H A mem run) W (((κ, tt), (q, tt), tt, a, at), tt) (T′.lowered (made r)) (made r) (tt, (tt, tt)) (tt, (tt, tt))) $ says ! (ap made e) $
       frame ! $ use1 W (‵ Own ⊛ ‵ Own) (shr-slice-copy 𝓤 H A W (named 0) κ u8 .twice s (v ∷ [])) $ split ! $ nothing ! $ owned ! usize (Is usize) (uint-makes 𝓤 H A W w64) n _ (refl, n-fits) $ fjoin ! $ move ! (1 ∷ 0 ∷ []) $ fjoin ! $ frame ! $
-      nothing ! $ owned ! O.the-row (Is O.the-row) (LL.makes O.the-type O′.the-plain 𝓤 H A) r _ isO $ fjoin ! $
-      owned ! C.the-row (Is C.the-row) (LL.makes C.the-type C′.the-plain 𝓤 H A) (r .cursor) _ isC $ fjoin ! $ move ! (1 ∷ 0 ∷ []) $ fjoin ! $ by ! (own-shut 𝓤 H A W (T.the-type α) (T′.the-laws α) (s, (r .cursor, (r, tt))))
+      nothing ! $ owned ! Hd.the-row (Is Hd.the-row) (LL.makes Hd.the-type Hd′.the-plain 𝓤 H A) (r .head) _ isH $ fjoin ! $
+      owned ! C.the-row (Is C.the-row) (LL.makes C.the-type C′.the-plain 𝓤 H A) (r .cursor) _ isC $ fjoin ! $ move ! (1 ∷ 0 ∷ []) $ fjoin ! $ by ! (own-shut 𝓤 H A W (T.the-type α) (T′.the-laws α) (s, (r .cursor, (r .head, tt))))
 
   module _ (Cs : Calls 𝓤 H) (Λ : Loops 𝓤 H) (fm : FmC 𝓤 H (W .laws) Cs) (known : Triple 𝓤 (Cs #kexinit·open-list) (OpenList 𝓤 H A mem run)) where
     walk : Is (ShrSlice (named 0) κ u8) s (v ∷ []) → ent 𝓤 (onEntry 𝓤 H A f.signature (κ, tt) (q, tt) a at) (WpFn 𝓤 H Cs Λ code.function (v ∷ vint w64 n ∷ []) Post)
     walk p =
         qed W (raw (onEntry 𝓤 H A f.signature (κ, tt) (q, tt) a at) ∷ []) ∵ enter ! Cs Λ code.function (v ∷ vint w64 n ∷ []) _ $
-        alloc1 ! (λ l₀. alloc1 ! (λ l₁. alloc1 ! (λ l₂. alloc1 ! (λ l₃. alloc1 ! (λ l₄. alloc0 ! $ params1 ! $ pass1 ! (init ! 6 refl (shr-slice-lawful 𝓤 H A W (named 0) κ u8 .typed s (v ∷ []) p .0)) $ pass1 ! (init ! 4 refl (tt, record { fits = n-fits })) $ pass0 ! $
-        move ! (10 ∷ []) $ use1 W (raw (OpenList 𝓤 H A mem run .pre to) ⊛ ‵ Own) apart $ split ! $
-        calls-at ! fm (OpenList 𝓤 H A mem run) known to (and-then ! (load ! (from ! (stop !)) (look ! 8 refl)) (and-then ! (load ! (from ! (stop !)) (look ! 6 refl)) (no-more !))) (λ u.
+        alloc1 ! (λ l₀. alloc1 ! (λ l₁. alloc1 ! (λ l₂. alloc1 ! (λ l₃. alloc1 ! (λ l₄. alloc1 ! (λ l₅. alloc0 ! $ params1 ! $ pass1 ! (init ! 8 refl (shr-slice-lawful 𝓤 H A W (named 0) κ u8 .typed s (v ∷ []) p .0)) $ pass1 ! (init ! 6 refl (tt, record { fits = n-fits })) $ pass0 ! $
+        move ! (12 ∷ []) $ use1 W (raw (OpenList 𝓤 H A mem run .pre to) ⊛ ‵ Own) apart $ split ! $
+        calls-at ! fm (OpenList 𝓤 H A mem run) known to (and-then ! (load ! (from ! (stop !)) (look ! 10 refl)) (and-then ! (load ! (from ! (stop !)) (look ! 8 refl)) (no-more !))) (λ u.
         use1 W (later (some (λ (r : Opened). ((‵ (flft κ q) ⊛ ‵ ftrue) ⊛ ‵ (O.the-row .own r (u ∷ []))) ⊛ raw (ensured 𝓤 H A open-list.ended (open-list.clauses 𝓤 H A mem run) (κ, tt) a tt r)))) (id⊢ 𝓤 _) $ await ! tt $ pick ! (λ r.
         split ! $ move ! (1 ∷ []) $ use1 W (raw (fact 𝓤 (r ≡ openList (now s) n))) (said r) $ heard ! (r ≡ openList (now s) n) (λ e. split ! $ move ! (1 ∷ []) $
         peeks ! O.the-row (Is O.the-row) (shows 𝓤 H A O.the-row) r (u ∷ []) (λ is.
-        let fields = LL.owed O.the-type O′.the-laws r _ is in let isC = fields .1 .1 .1 .1 .0 in let isO = LL.owes O.the-type O′.the-laws r fields in
-        -- [what the record owns; the token; what payload owns; _4; …; _3; …; _2; …; _1; …; room for _0; …]
-        land ! (from ! (stop !)) (init ! 5 refl (LL.lawful O.the-type O′.the-laws 𝓤 H A W .typed r _ is .0)) $ rewrite ! 5 (λ (z : Val). ‵ (fat fullShare O′.mir l₃ 0 z)) (ap only (LL.tells O.the-type O′.the-laws r _ is)) refl $
-        assigns ! (of-opd ! (load ! (from ! (fld ! refl (stop !))) (look-in ! 5 (sub ! 4 refl (whole !))))) (from ! (stop !)) (init ! 3 refl (LL.lawful C.the-type C′.the-laws 𝓤 H A W .typed (r .cursor) _ isC .0)) $
-        assigns ! (agg ! (and-then ! (load ! (from ! (stop !)) (look ! 9 refl)) (and-then ! (load ! (from ! (stop !)) (look ! 3 refl)) (and-then ! (load ! (from ! (stop !)) (look ! 5 refl)) (no-more !))))) (from ! (stop !))
-        (init ! 11 refl (tt, (shr-slice-lawful 𝓤 H A W (named 0) κ u8 .typed s (v ∷ []) p .0 .1, (LL.lawful C.the-type C′.the-laws 𝓤 H A W .typed (r .cursor) _ isC .0 .1, (LL.lawful O.the-type O′.the-laws 𝓤 H A W .typed r _ isO .0 .1, tt))))) $
-        returns ! (look ! 11 refl) $ forget ! 3 refl $ forget ! 5 refl $ forget ! 7 refl $ forget ! 9 refl $ forget ! 11 refl $
-        move ! (11 ∷ 12 ∷ []) $ free1 ! $ move ! (9 ∷ 10 ∷ []) $ free1 ! $ move ! (7 ∷ 8 ∷ []) $ free1 ! $ move ! (5 ∷ 6 ∷ []) $ free1 ! $ move ! (3 ∷ 4 ∷ []) $ free1 ! $ free0 ! $ keep ! (1 ∷ 2 ∷ []) $ by ! (exits r e isC isO))))))))))
+        let fields = LL.owed O.the-type O′.the-laws r _ is in let isH = fields .0 in let isC = fields .1 .0 in
+        -- [what the record owns; the token; what payload owns; _5; …; _4; …; _3; …; _2; …; _1; …; room for _0; …]
+        land ! (from ! (stop !)) (init ! 7 refl (LL.lawful O.the-type O′.the-laws 𝓤 H A W .typed r _ is .0)) $ rewrite ! 7 (λ (z : Val). ‵ (fat fullShare O′.mir l₃ 0 z)) (ap only (LL.tells O.the-type O′.the-laws r _ is)) refl $
+        assigns ! (of-opd ! (load ! (from ! (fld ! refl (stop !))) (look-in ! 7 (sub ! 1 refl (whole !))))) (from ! (stop !)) (init ! 5 refl (LL.lawful C.the-type C′.the-laws 𝓤 H A W .typed (r .cursor) _ isC .0)) $
+        assigns ! (of-opd ! (load ! (from ! (fld ! refl (stop !))) (look-in ! 7 (sub ! 0 refl (whole !))))) (from ! (stop !)) (init ! 3 refl (LL.lawful Hd.the-type Hd′.the-laws 𝓤 H A W .typed (r .head) _ isH .0)) $
+        assigns ! (agg ! (and-then ! (load ! (from ! (stop !)) (look ! 11 refl)) (and-then ! (load ! (from ! (stop !)) (look ! 5 refl)) (and-then ! (load ! (from ! (stop !)) (look ! 3 refl)) (no-more !))))) (from ! (stop !))
+        (init ! 13 refl (tt, (shr-slice-lawful 𝓤 H A W (named 0) κ u8 .typed s (v ∷ []) p .0 .1, (LL.lawful C.the-type C′.the-laws 𝓤 H A W .typed (r .cursor) _ isC .0 .1, (LL.lawful Hd.the-type Hd′.the-laws 𝓤 H A W .typed (r .head) _ isH .0 .1, tt))))) $
+        returns ! (look ! 13 refl) $ forget ! 3 refl $ forget ! 5 refl $ forget ! 7 refl $ forget ! 9 refl $ forget ! 11 refl $ forget ! 13 refl $
+        move ! (13 ∷ 14 ∷ []) $ free1 ! $ move ! (11 ∷ 12 ∷ []) $ free1 ! $ move ! (9 ∷ 10 ∷ []) $ free1 ! $ move ! (7 ∷ 8 ∷ []) $ free1 ! $ move ! (5 ∷ 6 ∷ []) $ free1 ! $ move ! (3 ∷ 4 ∷ []) $ free1 ! $ free0 ! $ keep ! (1 ∷ 2 ∷ []) $ by ! (exits r e isC isH)))))))))))
 
 module _ {M : Type 1} (𝓤 : URA M) (H : Heap 𝓤) (A : Atoms 𝓤) (W : Given 𝓤 H A) (mem : Memory → SProp 𝓤) (run : Routine → Fun 𝓤) where
   open-view-walks : (Cs : Calls 𝓤 H) (Λ : Loops 𝓤 H) → FmC 𝓤 H (W .laws) Cs → Triple 𝓤 (Cs #kexinit·open-list) (OpenList 𝓤 H A mem run) → Walks 𝓤 H A f.ended stayed (WpFn 𝓤 H Cs Λ code.function) (f.clauses 𝓤 H A mem run)

@@ -5,16 +5,16 @@ use Rattle.views_run.proofs.walked.Statement.{statement}
 use Rattle.views_run.proofs.walked.Tie as tie
 
 abbrev Inv-loop : tie.InvT-loop
-Inv-loop payload a₀ b₀ k₀ a b k = k ≤ 100
+Inv-loop payload head a₀ b₀ k₀ a b k = k ≤ 100
 
 abbrev μ-loop : tie.MeasureT-loop
-μ-loop payload a₀ b₀ k₀ a b k = 100 - k
+μ-loop payload head a₀ b₀ k₀ a b k = 100 - k
 
 loop-holds : tie.Need-loop-holds Inv-loop μ-loop
 loop-holds c = search needs
 
-next-through-requires : tie.Need-next-through-requires Inv-loop μ-loop
-next-through-requires c κs = search needs
+next-by-view-requires : tie.Need-next-by-view-requires Inv-loop μ-loop
+next-by-view-requires c κs = search needs
 
 next-name-requires : tie.Need-next-name-requires Inv-loop μ-loop
 next-name-requires c κs = search needs
@@ -56,7 +56,7 @@ walked-spec =
     Inv-loop
     μ-loop
     loop-holds
-    next-through-requires
+    next-by-view-requires
     next-name-requires
     same-next-requires
     returns

@@ -1,0 +1,101 @@
+-- Laws of what is due, one for each answer that the functions give. Assumes nothing.
+use Prim.Native.Nat.{ℕ, _+_, _≤_, _<_}
+use mathlib.Core.Path.{_≡_, sym, ap, _∙_}
+use mathlib.Core.List.{List}
+use mathlib.Core.Bool.{true, false}
+use native.Mathlib.Omega.{arith}
+use lib.ListN.{length}
+use lib.Dec.{leb}
+use borrow.Author.Tests.{le-leb, lt-leb, lt-ltb, le-ltb, eq-eqb, ne-eqb}
+use Rattle.limits.specs.Limits.{client, roomLeast, methodLast, server}
+use Rattle.limits.proofs.RangeLaws.{within-is, within-low, within-high}
+use Rattle.wire.specs.Strings.{number32, numberAt}
+use Rattle.wire.proofs.CauseLaws.{if-holds, if-fails, unless-holds, unless-fails}
+use Rattle.wire.proofs.StringLaws.{number-at}
+use Rattle.methods.specs.Rows.{rowOf}
+use Rattle.methods.specs.declared.KForm.{KForm}
+use Rattle.methods.specs.declared.KForm.the-variants.{Mpint}
+use Rattle.methods.specs.declared.Method.{Method}
+use Rattle.exchange.specs.Causes.{methodOk}
+use Rattle.exchange.specs.Record.{nextStep, clientNext, serverNext, hasK, lengthsFit, kBodyFits, kFits, due}
+use Rattle.exchange.specs.Steps.{stepNumber}
+use Rattle.exchange.specs.declared.Stage.{Stage}
+use Rattle.exchange.specs.declared.Exchange.{Exchange}
+
+-- ---- nextStep
+
+module _ (role : ℕ) (stage : Stage) where
+  pub next-client : role ≡ client → clientNext stage ≡ nextStep role stage
+  next-client h = rw (eq-eqb role client h)
+
+  pub next-server : (role ≡ client → ⊥) → role ≡ server → serverNext stage ≡ nextStep role stage
+  next-server h k = rw (ne-eqb role client h, eq-eqb role server k)
+
+  pub next-none : (role ≡ client → ⊥) → (role ≡ server → ⊥) → 0 ≡ nextStep role stage
+  next-none h k = rw (ne-eqb role client h, ne-eqb role server k)
+
+-- ---- kFits
+
+module _ (r : Method) (stage : Stage) (k : List ℕ) where
+  pub k-none : hasK stage ≡ false → true ≡ kFits r stage k
+  unfolding kFits
+  k-none h = rw h
+
+  pub k-body : hasK stage ≡ true → 4 ≤ length k → (n : ℕ) → n ≡ numberAt k 0 → (f : KForm) → r .«k_form» ≡ f
+      → kBodyFits f r n ≡ kFits r stage k
+  unfolding kFits
+  k-body h a n e f g =
+      let b : n ≡ number32 k = e ∙ number-at k 0 (omega arith) in
+      rw h (ap (λ (x : KForm). kBodyFits x r n) (sym g) ∙ ap (kBodyFits (r .«k_form») r) b)
+
+module _ (r : Method) (n : ℕ) where
+  pub mpint-long : r .«x_len» + 1 < n → false ≡ kBodyFits Mpint r n
+  mpint-long h = rw (lt-leb n (r .«x_len» + 1) h)
+
+  module _ (a : n ≤ r .«x_len» + 1) where
+    pub mpint-checked : r .«zero_check» ≡ true → leb 1 n ≡ kBodyFits Mpint r n
+    mpint-checked h = rw (le-leb n (r .«x_len» + 1) a, h)
+
+    pub mpint-free : r .«zero_check» ≡ false → true ≡ kBodyFits Mpint r n
+    mpint-free h = rw (le-leb n (r .«x_len» + 1) a, h)
+
+-- ---- due
+
+module _ (n : ℕ) (e : Exchange) where
+  pub due-other : (nextStep (e .role) (e .stage) ≡ n → ⊥) → false ≡ due n e
+  unfolding due
+  due-other h = rw (ne-eqb (nextStep (e .role) (e .stage)) n h)
+
+  module _ (a : nextStep (e .role) (e .stage) ≡ n) where
+    pub due-low : e .method < 1 → false ≡ due n e
+    unfolding due methodOk
+    due-low h = rw (eq-eqb (nextStep (e .role) (e .stage)) n a, within-low 1 methodLast (e .method) h)
+
+    pub due-high : methodLast < e .method → false ≡ due n e
+    unfolding due methodOk
+    due-high h = rw (eq-eqb (nextStep (e .role) (e .stage)) n a, within-high 1 methodLast (e .method) h)
+
+    module _ (b : 1 ≤ e .method) (c : e .method ≤ methodLast) where
+      pub due-lengths : lengthsFit (rowOf (e .method)) (e .stage) (e .lens) ≡ false → false ≡ due n e
+      unfolding due methodOk
+      due-lengths h = rw (eq-eqb (nextStep (e .role) (e .stage)) n a, within-is 1 methodLast (e .method) b c, h)
+
+      pub due-k : lengthsFit (rowOf (e .method)) (e .stage) (e .lens) ≡ true → kFits (rowOf (e .method)) (e .stage) (e .k) ≡ due n e
+      unfolding due methodOk
+      due-k h = rw (eq-eqb (nextStep (e .role) (e .stage)) n a, within-is 1 methodLast (e .method) b c, h)
+
+-- ---- stepNumber
+
+module _ (n : ℕ) (e : Exchange) (room fed : ℕ) where
+  pub number-not-due : due n e ≡ false → 1 ≡ stepNumber n e room fed
+  unfolding stepNumber
+  number-not-due h = sym (unless-fails _ 1 _ h)
+
+  module _ (a : due n e ≡ true) where
+    pub number-room : room < roomLeast → 3 ≡ stepNumber n e room fed
+    unfolding stepNumber
+    number-room h = sym (unless-holds _ 1 _ a ∙ if-holds _ 3 fed (lt-ltb room roomLeast h))
+
+    pub number-fed : roomLeast ≤ room → fed ≡ stepNumber n e room fed
+    unfolding stepNumber
+    number-fed h = sym (unless-holds _ 1 _ a ∙ if-fails _ 3 fed (le-ltb room roomLeast h))

@@ -1,0 +1,133 @@
+-- What an accepted call hands out is what the book says: hash input and its length, REPLY, and K. Assumes nothing.
+use Prim.Native.Nat.{ℕ, _+_, _≤_}
+use mathlib.Core.Path.{_≡_, refl, sym, ap, _∙_}
+use mathlib.Core.List.{List}
+use mathlib.Core.Bool.{Bool, true, false, cond}
+use native.Mathlib.Omega.{arith}
+use lib.ListN.{length, getD, take, drop}
+use lib.Seq.{take-at}
+use lib.Dec.{eqb}
+use borrow.Author.Tests.{eqb-true}
+use Rattle.limits.specs.Limits.{blobMost, roomLeast, server}
+use Rattle.limits.proofs.RangeLaws.{within-least}
+use Rattle.buffers.specs.Bytes.{onto}
+use Rattle.wire.proofs.CauseLaws.{unless-none}
+use Rattle.methods.proofs.FormLaws.{s-least}
+use Rattle.messages.specs.Messages.{replyBytes, fieldOf}
+use Rattle.exchange.specs.Causes.{blobOk, replyCause, signCause, kOf}
+use Rattle.exchange.specs.Record.{kLength}
+use Rattle.exchange.specs.Steps.{Call, secret, sign, verdict, stepNo, fedCause, number, fieldsEnd, filled, taken, kRecord, replyOf, countOf, roomAfter}
+use Rattle.exchange.specs.Book.{Fields, Book, brings, stepsOf, firstCause, fieldsAfter, moved, noted, hashInput}
+use Rattle.exchange.specs.declared.Classical.{Classical}
+use Rattle.exchange.specs.declared.Kem.{Kem}
+use Rattle.exchange.specs.declared.Exchange.{Exchange}
+use Rattle.exchange.proofs.KindLaws.{kind-accepted}
+use Rattle.exchange.proofs.CauseFacts.{Base, FormedS, Blob, Key, method-least, method-most}
+use Rattle.exchange.proofs.HashLaws.{hash-length, ks-stands, s-stands}
+use Rattle.exchange.proofs.StepLaws.{step-accepted}
+use Rattle.exchange.proofs.ReadBack.{reply-back}
+use Rattle.exchange.proofs.Simulation.{Reachable, client0, client1, client2, client3, client4, server0, server1, server2, server3, exchangeOf, accepts, Sim, live, dead, number-live, no-cause, dead-number}
+
+-- a call that is accepted finds the exchange and the room as the book tells them, and has no cause against it there
+record Live (room : List ℕ) (b : Book) (e : Exchange) (room′ : List ℕ) (q : Call) : Type 0 where
+  sound : Reachable b
+  exchange : e ≡ exchangeOf b
+  room-is : room′ ≡ onto room (hashInput (b .fields))
+  cause : firstCause (length room) b q ≡ 0
+
+live-of : (room : List ℕ) (b : Book) (e : Exchange) (room′ : List ℕ) (q : Call) → roomLeast ≤ length room → Sim room b e room′ → number e room′ q ≡ 0 → Live room b e room′ q
+live-of room b e room′ q h (live s x y) z = record {
+  sound = s;
+  exchange = x;
+  room-is = y;
+  cause = sym (number-live room b q h s) ∙ (λ i. number (sym x i) (sym y i) q) ∙ z;
+}
+live-of room b e room′ q h (dead n x f y w u) z = let v = dead-number e room′ n q y in let w : ⊥ = omega arith in absurd w
+
+noted-moved : (l : ℕ) (b : Book) (q : Call) → firstCause l b q ≡ 0 → noted l b q ≡ moved b q
+unfolding noted
+noted-moved l b q z = rw (kind-accepted (firstCause l b q) z)
+
+-- ---- the secret step: the hash input is whole, and its length is the count
+
+secret-k : (role m : ℕ) (f : Fields) (cl : Classical) (x : List ℕ) (kem : Kem) (d ks s : List ℕ) → fieldsAfter role m f (secret cl x kem d ks s) .k ≡ kOf m x d
+unfolding fieldsAfter
+secret-k role m f cl x kem d ks s = by-test (eqb role server)
+  where
+    by-test : (t : Bool) → cond t (brings f ks (f .c) s (kOf m x d)) (brings f (f .ks) (f .c) (f .s) (kOf m x d)) .k ≡ kOf m x d
+    by-test true = refl
+    by-test false = refl
+
+module _ (room : List ℕ) (b : Book) (e : Exchange) (room′ : List ℕ) (h : roomLeast ≤ length room) (sim : Sim room b e room′) where
+  pub secret-handed : (cl : Classical) (x : List ℕ) (kem : Kem) (d ks s : List ℕ) → number e room′ (secret cl x kem d ks s) ≡ 0
+      → (countOf e room′ (secret cl x kem d ks s) ≡ length (hashInput (noted (length room) b (secret cl x kem d ks s) .fields)))
+      × (take (countOf e room′ (secret cl x kem d ks s)) (roomAfter e room′ (secret cl x kem d ks s)) ≡ hashInput (noted (length room) b (secret cl x kem d ks s) .fields))
+  unfolding countOf onto
+  secret-handed cl x kem d ks s z =
+      let q : Call = secret cl x kem d ks s in
+      let l = live-of room b e room′ q h sim z in
+      let u = no-cause (length room) b q (l .cause) in
+      let w = accepts room (l .sound) q (u .0) (u .1) in
+      let f : Fields = fieldsAfter (b .role) (b .method) (b .fields) q in
+      let m : noted (length room) b q .fields ≡ f = ap (λ (y : Book). y .fields) (noted-moved (length room) b q (l .cause)) in
+      let n : countOf e room′ q ≡ length (hashInput f) =
+      (λ i. fieldsEnd (taken (l .exchange i) q .lens) + length (kOf (l .exchange i .method) x d))
+      ∙ (λ i. fieldsEnd (w .exchange i .lens) + length (sym (secret-k (b .role) (b .method) (b .fields) cl x kem d ks s) i))
+      ∙ sym (hash-length (f .vc) (f .vs) (f .ic) (f .is) (f .ks) (f .c) (f .s) (f .k)) in
+      let r : roomAfter e room′ q ≡ onto room (hashInput f) =
+      sym (step-accepted e room′ q z .1) ∙ (λ i. filled (l .exchange i) (l .room-is i) q) ∙ w .room-is in (
+        n ∙ ap (λ (y : Fields). length (hashInput y)) (sym m),
+        (λ i. take (n i) (r i)) ∙ take-at (hashInput f) (drop (length (hashInput f)) room) _ refl ∙ ap hashInput (sym m),
+      )
+
+-- ---- signature and verdict: the book has every field, K too
+
+record Full (b : Book) : Type 0 where
+  base : Base (b .method) (b .fields .vc) (b .fields .vs) (b .fields .ic) (b .fields .is)
+  host-key : Blob (b .fields .ks)
+  value : FormedS (b .method) (b .fields .s)
+  key : Key (b .method) (b .fields .k)
+
+full : {b : Book} → Reachable b → (n : ℕ) → 5 ≤ n → eqb (getD (stepsOf (b .role)) (b .done) 0) n ≡ true → Full b
+full (client0 a) n h e = let v = eqb-true 1 n e in let w : ⊥ = omega arith in absurd w
+full (client1 a c) n h e = let v = eqb-true 3 n e in let w : ⊥ = omega arith in absurd w
+full (client2 a c k s) n h e = let v = eqb-true 4 n e in let w : ⊥ = omega arith in absurd w
+full (client3 a c k s y) n h e = record { base = a; host-key = k; value = s; key = y }
+full (client4 a c k s y) n h e = let v = eqb-true 0 n e in let w : ⊥ = omega arith in absurd w
+full (server0 a) n h e = let v = eqb-true 2 n e in let w : ⊥ = omega arith in absurd w
+full (server1 a c) n h e = let v = eqb-true 4 n e in let w : ⊥ = omega arith in absurd w
+full (server2 a c k s y) n h e = record { base = a; host-key = k; value = s; key = y }
+full (server3 a c k s y) n h e = let v = eqb-true 0 n e in let w : ⊥ = omega arith in absurd w
+
+module _ (room : List ℕ) (b : Book) (e : Exchange) (room′ : List ℕ) (h : roomLeast ≤ length room) (sim : Sim room b e room′) where
+  -- K as it is written, and its length
+  key-handed : (q : Call) → 5 ≤ stepNo q → number e room′ q ≡ 0 → (e .k ≡ kRecord (b .fields .k)) × (kLength (e .k) ≡ length (b .fields .k))
+  key-handed q n z =
+      let l = live-of room b e room′ q h sim z in
+      let w = full (l .sound) (stepNo q) n (no-cause (length room) b q (l .cause) .0) in
+      let k = ap (λ (x : Exchange). x .k) (l .exchange) in
+      (k, ap kLength k ∙ w .key .len)
+
+  pub verdict-handed : (u v : Bool) (kOut : ℕ) → number e room′ (verdict u v kOut) ≡ 0 → (e .k ≡ kRecord (b .fields .k)) × (kLength (e .k) ≡ length (b .fields .k))
+  verdict-handed u v kOut z = key-handed (verdict u v kOut) (omega arith) z
+
+  pub sign-handed : (g : List ℕ) (out kOut : ℕ) → number e room′ (sign g out kOut) ≡ 0
+      → let p = replyBytes (b .fields .ks) (b .fields .s) g in
+      (replyOf e room′ g ≡ p)
+      × ((e .k ≡ kRecord (b .fields .k)) × (kLength (e .k) ≡ length (b .fields .k)))
+      × ((replyCause (b .method) p ≡ 0) × (fieldOf p 0 ≡ b .fields .ks) × (fieldOf p 1 ≡ b .fields .s) × (fieldOf p 2 ≡ g))
+  unfolding fedCause signCause
+  sign-handed g out kOut z =
+      let q : Call = sign g out kOut in
+      let f : Fields = b .fields in
+      let l = live-of room b e room′ q h sim z in
+      let u = no-cause (length room) b q (l .cause) in
+      let w = full (l .sound) 5 (omega arith) (u .0) in
+      let mo = w .base .method-ok in
+      let ks = within-least 1 blobMost (length (f .ks)) (w .host-key .ok) in
+      let s = s-least (b .method) (length (f .s)) (method-least (b .method) mo) (method-most (b .method) mo) (w .value .len) in (
+        (λ i. replyOf (l .exchange i) (l .room-is i) g)
+            ∙ (λ i. replyBytes (ks-stands (f .vc) (f .vs) (f .ic) (f .is) room (f .ks) (f .c) (f .s) (f .k) ks i) (s-stands (f .vc) (f .vs) (f .ic) (f .is) room (f .ks) (f .c) (f .s) (f .k) s i) g),
+        key-handed q (omega arith) z,
+        reply-back (b .method) mo (f .ks) (f .s) g (w .host-key .ok) (w .value .ok) (unless-none (blobOk (length g)) 4 _ (omega arith) (u .1) .0),
+      )

@@ -1,0 +1,63 @@
+-- Sample calls: for each role and method a list that completes an exchange, so that demand 3 is not about nothing. Assumes nothing.
+use Prim.Native.Nat.{ℕ, _-_}
+use mathlib.Core.List.{List, [], _∷_, _++_}
+use mathlib.Core.Bool.{true, cond}
+use lib.ListN.{replicate}
+use lib.Dec.{eqb}
+use Rattle.limits.specs.Limits.{kSize, initLeast, replyLeast, client}
+use Rattle.buffers.specs.Bytes.{zeros}
+use Rattle.messages.specs.Messages.{initBytes, replyBytes}
+use Rattle.methods.specs.Rows.{rowOf}
+use Rattle.methods.specs.declared.KForm.{KForm}
+use Rattle.methods.specs.declared.KForm.the-variants.{Mpint, Digest}
+use Rattle.methods.specs.declared.Shape.{Shape}
+use Rattle.methods.specs.declared.Method.{Method}
+use Rattle.exchange.specs.Steps.{Call, ownC, init, reply, secret, sign, verdict}
+use Rattle.exchange.specs.declared.Classical.the-variants.{Given}
+use Rattle.exchange.specs.declared.Kem.{Kem}
+use Rattle.exchange.specs.declared.Kem.the-variants.{Absent, Done}
+
+-- a version, a KEXINIT payload, and a host key or signature
+abbrev pub version : List ℕ
+version = 83 ∷ []
+
+abbrev pub payload : List ℕ
+payload = 20 ∷ []
+
+abbrev pub blob : List ℕ
+blob = 1 ∷ []
+
+-- a public value of a shape: byte 4 where the classical part begins, zeros elsewhere
+abbrev pub publicValue : Shape → List ℕ
+publicValue h = zeros (h .classical) ++ 4 ∷ zeros (h .len - h .classical - 1)
+
+-- what the primitives gave
+abbrev pub kemFor : KForm → Kem
+kemFor Mpint = Absent
+kemFor Digest = Done
+
+abbrev pub digestIn : KForm → ℕ → List ℕ
+digestIn Mpint n = []
+digestIn Digest n = zeros n
+
+abbrev pub secretCall : Method → List ℕ → List ℕ → Call
+secretCall r ks s = secret (Given (r .«x_len»)) (replicate (r .«x_len») 1) (kemFor (r .«k_form»)) (digestIn (r .«k_form») (r .«digest_len»)) ks s
+
+-- every step of a role, in order
+abbrev pub clientCalls : Method → List Call
+clientCalls r =
+    ownC (publicValue (r .c)) initLeast
+    ∷ reply (replyBytes blob (publicValue (r .s)) blob)
+    ∷ secretCall r [] []
+    ∷ verdict true true kSize
+    ∷ []
+
+abbrev pub serverCalls : Method → List Call
+serverCalls r =
+    init (initBytes (publicValue (r .c)))
+    ∷ secretCall r blob (publicValue (r .s))
+    ∷ sign blob replyLeast kSize
+    ∷ []
+
+unfoldable pub sampleCalls : ℕ → ℕ → List Call
+sampleCalls role m = cond (eqb role client) (clientCalls (rowOf m)) (serverCalls (rowOf m))

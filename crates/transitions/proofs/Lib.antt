@@ -1,0 +1,2 @@
+pub mod TransitionLaws
+pub mod LaidLaws
