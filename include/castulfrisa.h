@@ -8,7 +8,8 @@
    - A buffer crosses as a pointer and a length in bytes. A length of 0 takes any pointer, also NULL.
    - Every buffer is the caller's, before, during and after a call. `const` buffers are read and never written. A buffer that is
      written must share no byte with any other buffer of the same call.
-   - An output is written from its first byte on. Bytes past those that are counted stay as they were.
+   - An output is written from its first byte on. Bytes past those that are counted stay as they were; but the output for K gets all
+     CASTULFRISA_K bytes, zeros after K.
 
    ANSWERS
    - Every answer has a number: 0, or the first cause against the call (enum castulfrisa_number). There is no other error channel.
