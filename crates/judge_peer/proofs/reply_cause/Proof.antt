@@ -1,14 +1,18 @@
 -- `judge_peer::reply_cause` meets its contract. Assumes nothing.
 use borrow.Author.Needs.{needs}
 use Prim.Native.Nat.{ℕ}
-use mathlib.Core.Path.{sym, ap, _∙_}
+use mathlib.Core.Path.{sym, ap, _∙_, _≡_}
 use mathlib.Core.List.{List}
 use lib.ListN.{length}
 use denote.Ref.{now}
 use Rattle.methods.specs.Form.{lengthFits, leadFits}
 use Rattle.exchange.specs.Causes.{blobOk}
 use Rattle.limits.proofs.BoolLaws.{holds, fails}
-use Rattle.judge_peer.proofs.PeerLaws.{field-read, reply-message, reply-length, reply-lead, reply-good}
+use mathlib.Core.Bool.{true}
+use Rattle.methods.specs.Rows.{rowOf}
+use Rattle.messages.specs.Payload.{messageCause}
+use Rattle.messages.specs.Messages.{replyLayout, fieldOf}
+use Rattle.judge_peer.proofs.PeerLaws.{field-read, reply-message, reply-length, reply-lead, reply-good, replyFits}
 use Rattle.judge_peer.proofs.reply_cause.Statement.{statement}
 use Rattle.judge_peer.proofs.reply_cause.Tie as tie
 
@@ -89,35 +93,35 @@ returns-4 c =
 lead-fits-requires : tie.Need-lead-fits-requires
 lead-fits-requires c κs = search needs
 
+-- what is known of a REPLY whose fields have their lengths
+lengths : (l : tie.After-lead-fits) →
+    let a = l .before .before .before .before .before .before .before .before .before .before .before .before .before .before .before .before .before .before .args in
+    (messageCause replyLayout (now (a .payload)) ≡ 0) × (replyFits (a .method) (now (a .payload)) ≡ true) × (l .lead-fits .result ≡ leadFits (rowOf (a .method) .s) (fieldOf (now (a .payload)) 1))
+lengths l =
+    let a = l .before .before .before .before .before .before .before .before .before .before .before .before .before .before .before .before .before .before .args in
+    let y = now (a .payload) in
+    let z = sym (l .before .before .before .before .before .before .before .before .before .before .before .before .before .before .before .before .message-cause .ensures) ∙ l .before .before .before .before .before .before .before .before .before .before .before .before .before .before .before .if1 .left in
+    let w = l .before .before .before .before .before .before .before .before .before .before .before .before .before .before .method-of .ensures in
+    let u = field-read y 0 _ _ (l .before .before .before .before .before .before .before .before .before .before .before .before .string-part .ensures) (l .before .before .before .before .before .before .before .before .before .before .before .part-of .ensures .0) in
+    let h = l .before .before .before .before .before .before .before .before .before .before .in-range .ensures ∙ ap (λ (x : List ℕ). blobOk (length x)) u in
+    let v = field-read y 1 _ _ (l .before .before .before .before .before .before .before .before .string-part2 .ensures) (l .before .before .before .before .before .before .before .part-of2 .ensures .0) in
+    let k = l .before .before .before .before .before .before .length-fits .ensures ∙ (λ i. lengthFits (w i .s) (length (v i))) in
+    let g = field-read y 2 _ _ (l .before .before .before .before .string-part3 .ensures) (l .before .before .before .part-of3 .ensures .0) in
+    let o = l .before .before .in-range2 .ensures ∙ ap (λ (x : List ℕ). blobOk (length x)) g in
+    let q = l .lead-fits .ensures ∙ (λ i. leadFits (w i .s) (v i)) in
+    (z, rw (holds h (l .before .before .before .before .before .before .before .before .before .if2 .left), holds k (l .before .before .before .before .before .if3 .left), holds o (l .before .if4 .left)), q)
+
 returns-5 : tie.Need-returns-5
 returns-5 c =
     let a = c .before .before .before .before .before .before .before .before .before .before .before .before .before .before .before .before .before .before .before .args in
-    let y = now (a .payload) in
-    let z = sym (c .before .before .before .before .before .before .before .before .before .before .before .before .before .before .before .before .before .message-cause .ensures) ∙ c .before .before .before .before .before .before .before .before .before .before .before .before .before .before .before .before .if1 .left in
-    let w = c .before .before .before .before .before .before .before .before .before .before .before .before .before .before .before .method-of .ensures in
-    let u = field-read y 0 _ _ (c .before .before .before .before .before .before .before .before .before .before .before .before .before .string-part .ensures) (c .before .before .before .before .before .before .before .before .before .before .before .before .part-of .ensures .0) in
-    let h = c .before .before .before .before .before .before .before .before .before .before .before .in-range .ensures ∙ ap (λ (x : List ℕ). blobOk (length x)) u in
-    let v = field-read y 1 _ _ (c .before .before .before .before .before .before .before .before .before .string-part2 .ensures) (c .before .before .before .before .before .before .before .before .part-of2 .ensures .0) in
-    let k = c .before .before .before .before .before .before .before .length-fits .ensures ∙ (λ i. lengthFits (w i .s) (length (v i))) in
-    let g = field-read y 2 _ _ (c .before .before .before .before .before .string-part3 .ensures) (c .before .before .before .before .part-of3 .ensures .0) in
-    let o = c .before .before .before .in-range2 .ensures ∙ ap (λ (x : List ℕ). blobOk (length x)) g in
-    let q = c .before .lead-fits .ensures ∙ (λ i. leadFits (w i .s) (v i)) in
-    reply-lead (a .method) y z (rw (holds h (c .before .before .before .before .before .before .before .before .before .before .if2 .left), holds k (c .before .before .before .before .before .before .if3 .left), holds o (c .before .before .if4 .left))) (fails q (c .if5 .taken))
+    let k = lengths (c .before) in
+    reply-lead (a .method) (now (a .payload)) (k .0) (k .1) (fails (k .2) (c .if5 .taken))
 
 returns-6 : tie.Need-returns-6
 returns-6 c =
     let a = c .before .before .before .before .before .before .before .before .before .before .before .before .before .before .before .before .before .before .before .args in
-    let y = now (a .payload) in
-    let z = sym (c .before .before .before .before .before .before .before .before .before .before .before .before .before .before .before .before .before .message-cause .ensures) ∙ c .before .before .before .before .before .before .before .before .before .before .before .before .before .before .before .before .if1 .left in
-    let w = c .before .before .before .before .before .before .before .before .before .before .before .before .before .before .before .method-of .ensures in
-    let u = field-read y 0 _ _ (c .before .before .before .before .before .before .before .before .before .before .before .before .before .string-part .ensures) (c .before .before .before .before .before .before .before .before .before .before .before .before .part-of .ensures .0) in
-    let h = c .before .before .before .before .before .before .before .before .before .before .before .in-range .ensures ∙ ap (λ (x : List ℕ). blobOk (length x)) u in
-    let v = field-read y 1 _ _ (c .before .before .before .before .before .before .before .before .before .string-part2 .ensures) (c .before .before .before .before .before .before .before .before .part-of2 .ensures .0) in
-    let k = c .before .before .before .before .before .before .before .length-fits .ensures ∙ (λ i. lengthFits (w i .s) (length (v i))) in
-    let g = field-read y 2 _ _ (c .before .before .before .before .before .string-part3 .ensures) (c .before .before .before .before .part-of3 .ensures .0) in
-    let o = c .before .before .before .in-range2 .ensures ∙ ap (λ (x : List ℕ). blobOk (length x)) g in
-    let q = c .before .lead-fits .ensures ∙ (λ i. leadFits (w i .s) (v i)) in
-    reply-good (a .method) y z (rw (holds h (c .before .before .before .before .before .before .before .before .before .before .if2 .left), holds k (c .before .before .before .before .before .before .if3 .left), holds o (c .before .before .if4 .left))) (holds q (c .if5 .left))
+    let k = lengths (c .before) in
+    reply-good (a .method) (now (a .payload)) (k .0) (k .1) (holds (k .2) (c .if5 .left))
 
 pub reply-cause-spec : {M : Type 1} → statement M
 reply-cause-spec =
