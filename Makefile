@@ -36,15 +36,20 @@ bench: lib
 dock: lib needs
 	gcc -std=c11 $(WARN) host/dock/*.c $(LIB) -lcrypto -o build/dock
 
-# The C programs, plain and under the sanitizers, and the Rust side.
+# The C programs, plain and under the sanitizers, and the Rust side. What the stack is left with depends on the level of optimization, and
+# on whether memcpy and memset are looked up ahead or at their first call.
 SAN = -fsanitize=address,undefined -fno-sanitize-recover=all -g
+HEADER = tests/header_test.c tests/header_steps.c tests/header_32.c
 host: bench dock
 	@mkdir -p build/host
-	gcc -std=c11 $(WARN) tests/header_test.c $(LIB) -o build/host/header_c
-	g++ -std=c++17 $(WARN) -x c++ tests/header_test.c -x none $(LIB) -o build/host/header_cc
-	gcc -std=c99 $(WARN) host/example.c $(LIB) -o build/host/example
-	gcc -std=c11 $(WARN) $(SAN) tests/header_test.c $(LIB) -o build/host/header_san
-	gcc -std=c99 $(WARN) $(SAN) host/example.c $(LIB) -o build/host/example_san
+	gcc -std=c11 $(WARN) $(HEADER) $(LIB) -o build/host/header_c
+	g++ -std=c++17 $(WARN) -x c++ $(HEADER) -x none $(LIB) -o build/host/header_cc
+	gcc -std=c11 $(WARN) -O0 -Wl,-z,now tests/stack_test.c $(LIB) -o build/host/stack_0
+	gcc -std=c11 $(WARN) -Wl,-z,now tests/stack_test.c $(LIB) -o build/host/stack_2
+	gcc -std=c11 $(WARN) -Wl,-z,lazy -DCASTULFRISA_STACK=8192 tests/stack_test.c $(LIB) -o build/host/stack_lazy
+	gcc -std=c99 $(WARN) host/example.c $(LIB) -lcrypto -o build/host/example
+	gcc -std=c11 $(WARN) $(SAN) $(HEADER) $(LIB) -o build/host/header_san
+	gcc -std=c99 $(WARN) $(SAN) host/example.c $(LIB) -lcrypto -o build/host/example_san
 	gcc -std=c11 $(WARN) $(SAN) host/bench.c $(LIB) -o build/host/bench_san
 	gcc -std=c11 $(WARN) $(SAN) host/dock/*.c $(LIB) -lcrypto -o build/host/dock_san
 	cd host && $(CARGO) build --release && $(CARGO) build --release --examples
@@ -52,12 +57,19 @@ host: bench dock
 # The compiled library: its header, its hosts, and every answer against the plain implementation of document 01.
 host-test: c-test rust-test bench-test differ-test live-test
 
+# The header also for 32 bits; and a result that is ignored must be refused: for that alone, and of each of the header's entries.
 c-test: host
 	build/host/header_c && build/host/header_cc && build/host/header_san
+	gcc -std=c11 $(WARN) -m32 -ffreestanding -fsyntax-only tests/header_32.c
+	gcc -std=c11 $(WARN) -Wno-unused-result -c tests/ignored.c -o build/host/ignored.o
+	! gcc -std=c11 $(WARN) -c tests/ignored.c -o build/host/ignored.o 2> build/host/ignored
+	test $$(grep -c 'Werror=unused-result' build/host/ignored) = $$(grep -c '^    castulfrisa_.*(' tests/ignored.c)
+	test $$(grep -c '^CASTULFRISA_MUST_USE' include/castulfrisa.h) = $$(grep -c '^    castulfrisa_.*(' tests/ignored.c)
+	build/host/stack_0 && build/host/stack_2 && build/host/stack_lazy
 	build/host/example && build/host/example_san
 
 rust-test: host
-	cd host && $(CARGO) test
+	cd host && $(CARGO) test && $(CARGO) test --release -p castulfrisa --tests
 	$(RUST)/examples/exchange
 	$(RUST)/captures tests/captures
 

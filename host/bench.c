@@ -3,7 +3,9 @@
    the only answers of its own are the 0 of room, poke, set and blank, which are no calls of the library. */
 #define _POSIX_C_SOURCE 200809L
 #include "castulfrisa.h"
+#include <inttypes.h>
 #include <signal.h>
+#include <stdbool.h>
 #include <stdio.h>
 #include <stdlib.h>
 #include <string.h>
@@ -12,6 +14,12 @@
 #define MOST_TOKENS 15 /* wkex: its name, the cookie, ten lists, boolean, reserved number, output */
 #define LENGTHS 7      /* the recorded lengths, l0 to l6 */
 
+/* The bytes of an exchange. A host has no business with them; here they are forged and shown. */
+enum { MARK_AT = 0, STAGE_AT = 1, FAIL_AT = 2, ROLE_AT = 3, METHOD_AT = 4, LENGTHS_AT = 5, K_AT = LENGTHS_AT + 2 * LENGTHS };
+_Static_assert(K_AT + CASTULFRISA_K == CASTULFRISA_EXCHANGE, "the exchange's bytes");
+#define MARK 1                 /* of this layout: bytes with another mark are no exchange's */
+#define LENGTH_MOST UINT16_MAX /* the most that a recorded length's two bytes hold */
+
 typedef struct { uint8_t *at; size_t len; } bytes; /* a block of exactly len bytes; NULL for none */
 
 /* ---- what is kept between lines */
@@ -19,11 +27,12 @@ typedef struct { uint8_t *at; size_t len; } bytes; /* a block of exactly len byt
 static unsigned long line; /* the number of the line in hand, for its error */
 static char *text;         /* its text, in getline's buffer */
 static size_t text_room;
-static bytes lent[MOST_TOKENS]; /* the blocks that this line lends, freed after its answer */
+static bytes lent[MOST_TOKENS]; /* the blocks that this line lends, fewer than its tokens, freed after its answer */
 static size_t lents;
 
-static castulfrisa_record exchange; /* its fail number is 0 unless it failed, as in every answer line */
-static uint8_t fail;                /* what `set fail` left for a stage that is set to failed later */
+static uint8_t exchange[CASTULFRISA_EXCHANGE]; /* its fail number is 0 unless it failed, as in every answer line */
+static uint8_t fail;                           /* what `set fail` left for a stage that is set to failed later */
+static uint64_t wide[LENGTHS];                 /* a length that was set above what its bytes hold; 0 where they hold it */
 static bytes room;
 static bytes view; /* the payload that open was given, and where next stands in it */
 static castulfrisa_cursor cursor;
@@ -63,13 +72,13 @@ static const char *const kems[] = {
 #define COUNT(row) (sizeof row / sizeof row[0])
 
 /* A decimal number of digits alone, at most `most`. */
-static size_t number(const char *token, size_t most)
+static uint64_t number(const char *token, uint64_t most)
 {
-    size_t n = 0;
+    uint64_t n = 0;
     if (*token == '\0') bad("a number is missing");
     for (; *token != '\0'; token++) {
         if (*token < '0' || *token > '9') bad("not a decimal number");
-        size_t digit = (size_t)(*token - '0');
+        uint64_t digit = (uint64_t)(*token - '0');
         /* judged before it is computed, so that nothing wraps */
         if (digit > most || n > (most - digit) / 10) bad("number out of range");
         n = n * 10 + digit;
@@ -78,8 +87,6 @@ static size_t number(const char *token, size_t most)
 }
 
 static uint8_t byte(const char *token) { return (uint8_t)number(token, UINT8_MAX); }
-
-static bool yes(const char *token) { return number(token, 1) == 1; }
 
 /* The place of a token among words; `wrong` where it is none of them. */
 static size_t word(const char *token, const char *const *words, size_t count, const char *wrong)
@@ -97,8 +104,16 @@ static unsigned nibble(char c)
     bad("not a hex digit");
 }
 
-/* The bytes of a token H or H*N, in a block of exactly their number, so that a sanitizer sees a touch outside it. No bytes are
-   NULL, which nobody can touch unnoticed. */
+/* A block of exactly len bytes, so that a sanitizer sees a touch outside it. No bytes are NULL, which nobody can touch unnoticed. */
+static bytes block(size_t len)
+{
+    bytes b = {NULL, len};
+    if (len > 0 && (b.at = malloc(len)) == NULL) bad("no memory");
+    lent[lents++] = b;
+    return b;
+}
+
+/* The bytes of a token H or H*N. */
 static bytes lend(const char *token)
 {
     const char *star = strchr(token, '*');
@@ -111,10 +126,9 @@ static bytes lend(const char *token)
     for (size_t i = 0; !none && i < digits; i++) nibble(token[i]);
     if (!none && digits % 2 != 0) bad("odd number of hex digits");
 
-    bytes b = {NULL, star ? number(star + 1, SIZE_MAX) : have};
-    if (b.len > 0 && have == 0) bad("no bytes to repeat");
-    if (b.len > 0 && (b.at = malloc(b.len)) == NULL) bad("no memory");
-    lent[lents++] = b;
+    size_t len = star ? (size_t)number(star + 1, SIZE_MAX) : have;
+    if (len > 0 && have == 0) bad("no bytes to repeat");
+    bytes b = block(len);
     for (size_t i = 0; i < b.len; i++)
         b.at[i] = i < have ? (uint8_t)(nibble(token[2 * i]) << 4 | nibble(token[2 * i + 1])) : b.at[i - have];
     return b;
@@ -130,19 +144,24 @@ static void keep(bytes *slot)
 
 /* ---- answers */
 
-static void put_number(uint8_t n) { printf("%u", (unsigned)n); }
+/* Numbers that a call is to fill in: any that it leaves alone shows in the answer. */
+#define LEND(type, name) \
+    type name;           \
+    memset(&name, 0xa5, sizeof name)
 
-/* A count, or a bool as 0 or 1. */
-static void put_count(size_t n) { printf(" %zu", n); }
+static void put_number(uint64_t n) { printf("%" PRIu64, n); }
+
+/* A count, or a yes/no as 1 or 0. */
+static void put_count(uint64_t n) { printf(" %" PRIu64, n); }
 
 /* A part of input. A part outside it would be the library's fault, and its bytes nobody's. */
 static void put_part(castulfrisa_part p, bytes input)
 {
     static const char hex[] = "0123456789abcdef";
     if (p.start > input.len || p.len > input.len - p.start) bad("the library gave a part outside its input");
-    printf(" %zu:", p.start);
+    printf(" %" PRIu64 ":", p.start);
     if (p.len == 0) putchar('-');
-    for (size_t i = p.start; i < p.start + p.len; i++) {
+    for (size_t i = (size_t)p.start; i < p.start + p.len; i++) {
         putchar_unlocked(hex[input.at[i] >> 4]);
         putchar_unlocked(hex[input.at[i] & 15]);
     }
@@ -165,40 +184,63 @@ static void put_out(bytes out)
     put_digest(out.at, out.len);
 }
 
-static void put_written(castulfrisa_written w, bytes out)
+static void put_written(uint64_t n, uint64_t count, bytes out)
 {
-    put_number(w.number);
-    put_count(w.count);
+    put_number(n);
+    put_count(count);
     put_out(out);
 }
 
-static size_t *length(size_t i)
+/* ---- the exchange's bytes */
+
+static uint64_t length(size_t i)
 {
-    castulfrisa_lengths *l = &exchange.lens;
-    size_t *const all[LENGTHS] = {&l->vc, &l->vs, &l->ic, &l->is, &l->ks, &l->c, &l->s};
-    return all[i];
+    const uint8_t *at = exchange + LENGTHS_AT + 2 * i;
+    return wide[i] > 0 ? wide[i] : (uint64_t)at[0] << 8 | at[1];
+}
+
+static void set_length(size_t i, uint64_t n)
+{
+    uint8_t *at = exchange + LENGTHS_AT + 2 * i;
+    wide[i] = n > LENGTH_MOST ? n : 0;
+    at[0] = (uint8_t)(n >> 8);
+    at[1] = (uint8_t)n;
+}
+
+/* What a step is handed: the exchange; but where a length is above what its bytes hold, so that no exchange has it, other bytes that no
+   exchange has, for the library to refuse. */
+static uint8_t *handed(void)
+{
+    static uint8_t none[CASTULFRISA_EXCHANGE];
+    for (size_t i = 0; i < LENGTHS; i++)
+        if (wide[i] > 0) {
+            memcpy(none, exchange, sizeof none);
+            none[MARK_AT] = MARK - 1;
+            return none;
+        }
+    return exchange;
 }
 
 static void put_exchange(void)
 {
-    printf(" | ex %u.%u.", (unsigned)exchange.role, (unsigned)exchange.method);
-    /* no call leaves another stage, but if one did it should show */
-    if (exchange.stage < COUNT(stages)) fputs(stages[exchange.stage], stdout);
-    else printf("%u", (unsigned)exchange.stage);
-    printf(".%u", (unsigned)exchange.fail);
-    for (size_t i = 0; i < LENGTHS; i++) printf("%c%zu", i == 0 ? '.' : ',', *length(i));
+    LEND(castulfrisa_told, told);
+    /* what is kept is always an exchange's, and the library reads in it what is shown */
+    if (castulfrisa_state(exchange, sizeof exchange, &told) != 0 || told.stage != exchange[STAGE_AT] || told.fail != exchange[FAIL_AT]
+        || told.role != exchange[ROLE_AT] || told.method != exchange[METHOD_AT])
+        bad("the library's state is not in the exchange's bytes");
+    printf(" | ex %" PRIu64 ".%" PRIu64 ".%s.%" PRIu64, told.role, told.method, stages[told.stage], told.fail);
+    for (size_t i = 0; i < LENGTHS; i++) printf("%c%" PRIu64, i == 0 ? '.' : ',', length(i));
     fputs(" k=", stdout);
-    put_digest(exchange.k, sizeof exchange.k);
+    put_digest(exchange + K_AT, CASTULFRISA_K);
     fputs(" room=", stdout);
     put_digest(room.at, room.len);
 }
 
-/* The number of a step, whose record is the exchange from now on. */
-static void put_step(const castulfrisa_answer *a)
+/* The number of a step. */
+static void put_step(uint64_t n)
 {
-    exchange = a->record;
-    if (exchange.stage == CASTULFRISA_FAILED) fail = exchange.fail;
-    put_number(a->number);
+    if (exchange[STAGE_AT] == CASTULFRISA_FAILED) fail = exchange[FAIL_AT];
+    put_number(n);
 }
 
 /* ---- calls without an exchange; t[0] is the call's name, and the table has seen to the number of tokens. A call reads all its
@@ -207,41 +249,47 @@ static void put_step(const castulfrisa_answer *a)
 static void call_rstr(char **t)
 {
     bytes s = lend(t[1]);
-    castulfrisa_string_read r = castulfrisa_read_string(s.at, s.len);
-    put_number(r.number);
-    put_part(r.body, s);
-    put_part(r.rest, s);
+    LEND(castulfrisa_string, parts);
+    put_number(castulfrisa_read_string(s.at, s.len, &parts));
+    put_part(parts.body, s);
+    put_part(parts.rest, s);
 }
 
 static void call_wstr(char **t)
 {
     bytes body = lend(t[1]), out = lend(t[2]);
-    put_written(castulfrisa_write_string(out.at, out.len, body.at, body.len), out);
+    LEND(uint64_t, count);
+    uint64_t n = castulfrisa_write_string(out.at, out.len, body.at, body.len, &count);
+    put_written(n, count, out);
 }
 
 static void call_rmpint(char **t)
 {
     bytes s = lend(t[1]);
-    castulfrisa_mpint_read r = castulfrisa_read_mpint(s.at, s.len);
-    put_number(r.number);
-    printf(" %d", (int)r.sign);
-    put_part(r.body, s);
-    put_part(r.rest, s);
+    LEND(castulfrisa_string, parts);
+    LEND(int64_t, sign);
+    put_number(castulfrisa_read_mpint(s.at, s.len, &sign, &parts));
+    printf(" %" PRId64, sign);
+    put_part(parts.body, s);
+    put_part(parts.rest, s);
 }
 
 static void call_wmpint(char **t)
 {
     bytes number_bytes = lend(t[1]), out = lend(t[2]);
-    put_written(castulfrisa_write_mpint(out.at, out.len, number_bytes.at, number_bytes.len), out);
+    LEND(uint64_t, count);
+    uint64_t n = castulfrisa_write_mpint(out.at, out.len, number_bytes.at, number_bytes.len, &count);
+    put_written(n, count, out);
 }
 
 static void call_open(char **t)
 {
     bytes p = lend(t[1]);
-    castulfrisa_opened o = castulfrisa_open_list(p.at, p.len, number(t[2], SIZE_MAX));
+    LEND(castulfrisa_opened, o);
+    uint64_t n = castulfrisa_open_list(p.at, p.len, number(t[2], UINT64_MAX), &o);
     keep(&view);
     cursor = o.cursor;
-    put_number(o.number);
+    put_number(n);
     put_part(o.cookie, view);
     put_count(o.follows);
     put_count(o.reserved);
@@ -250,44 +298,50 @@ static void call_open(char **t)
 static void call_next(char **t)
 {
     (void)t;
-    castulfrisa_next n = castulfrisa_next_name(view.at, view.len, cursor);
-    cursor = n.cursor;
-    put_number(n.number);
-    if (n.number == 0 && !n.found) fputs(" end", stdout);
-    else put_part(n.name, view);
+    LEND(castulfrisa_part, name);
+    uint64_t n = castulfrisa_next_name(view.at, view.len, &cursor, &name);
+    put_number(n);
+    if (n == 0 && name.len == 0) fputs(" end", stdout);
+    else put_part(name, view);
 }
 
 /* Has a cursor of its own: the view stays where it was. */
 static void call_names(char **t)
 {
     bytes p = lend(t[1]);
-    castulfrisa_opened o = castulfrisa_open_list(p.at, p.len, number(t[2], SIZE_MAX));
-    castulfrisa_next n = castulfrisa_next_name(p.at, p.len, o.cursor);
-    put_number(o.number);
-    for (; n.found; n = castulfrisa_next_name(p.at, p.len, n.cursor)) put_part(n.name, p);
-    if (n.number == 0) fputs(" end", stdout);
-    else printf(" %u", (unsigned)n.number);
+    LEND(castulfrisa_opened, o);
+    LEND(castulfrisa_part, name);
+    put_number(castulfrisa_open_list(p.at, p.len, number(t[2], UINT64_MAX), &o));
+    uint64_t n = castulfrisa_next_name(p.at, p.len, &o.cursor, &name);
+    for (; n == 0 && name.len > 0; n = castulfrisa_next_name(p.at, p.len, &o.cursor, &name)) put_part(name, p);
+    if (n == 0) fputs(" end", stdout);
+    else put_count(n);
 }
 
 static void call_wkex(char **t)
 {
-    bytes cookie = lend(t[1]), l[10];
-    for (size_t i = 0; i < 10; i++) l[i] = lend(t[2 + i]);
-    bool follows = number(t[12], SIZE_MAX) != 0;
-    uint32_t reserved = (uint32_t)number(t[13], UINT32_MAX);
-    bytes out = lend(t[14]);
-    castulfrisa_written w = castulfrisa_write_kexinit(
-        out.at, out.len, cookie.at, cookie.len, l[0].at, l[0].len, l[1].at, l[1].len, l[2].at, l[2].len, l[3].at, l[3].len,
-        l[4].at, l[4].len, l[5].at, l[5].len, l[6].at, l[6].len, l[7].at, l[7].len, l[8].at, l[8].len, l[9].at, l[9].len,
-        follows, reserved);
-    put_written(w, out);
+    bytes cookie = lend(t[1]);
+    castulfrisa_bytes lists[CASTULFRISA_LISTS];
+    uint64_t ends[CASTULFRISA_LISTS], total = 0;
+    for (size_t i = 0; i < CASTULFRISA_LISTS; i++) {
+        bytes list = lend(t[2 + i]);
+        lists[i] = (castulfrisa_bytes){list.at, list.len};
+        total += list.len;
+    }
+    uint64_t follows = number(t[12], UINT64_MAX) != 0, reserved = number(t[13], UINT32_MAX);
+    bytes out = lend(t[14]), joined = block((size_t)total);
+    if (castulfrisa_join(lists, joined.at, joined.len, ends) != total) bad("the header's join has another length");
+    LEND(castulfrisa_proposed, told);
+    uint64_t n = castulfrisa_write_kexinit(
+        out.at, out.len, cookie.at, cookie.len, joined.at, joined.len, ends, follows, reserved, &told);
+    put_written(n, told.count, out);
 }
 
 static void call_choose(char **t)
 {
     bytes client = lend(t[1]), server = lend(t[2]);
-    castulfrisa_choice c = castulfrisa_choose(client.at, client.len, server.at, server.len);
-    put_number(c.number);
+    LEND(castulfrisa_choice, c);
+    put_number(castulfrisa_choose(client.at, client.len, server.at, server.len, &c));
     put_count(c.method);
     put_part(c.host_key, client);
     put_count(c.ignore_client);
@@ -305,7 +359,7 @@ static void call_room(char **t)
 
 static void call_poke(char **t)
 {
-    size_t at = number(t[1], SIZE_MAX);
+    size_t at = (size_t)number(t[1], SIZE_MAX);
     bytes b = lend(t[2]);
     if (at > room.len || b.len > room.len - at) bad("poke past the room's end");
     if (b.len > 0) memcpy(room.at + at, b.at, b.len);
@@ -326,22 +380,24 @@ static size_t place(const char *digits, size_t count)
 static void call_set(char **t)
 {
     const char *field = t[1], *value = t[2];
-    if (strcmp(field, "role") == 0) exchange.role = byte(value);
-    else if (strcmp(field, "method") == 0) exchange.method = byte(value);
-    else if (strcmp(field, "stage") == 0) exchange.stage = (uint8_t)word(value, stages, COUNT(stages), "unknown stage");
+    if (strcmp(field, "role") == 0) exchange[ROLE_AT] = byte(value);
+    else if (strcmp(field, "method") == 0) exchange[METHOD_AT] = byte(value);
+    else if (strcmp(field, "stage") == 0) exchange[STAGE_AT] = (uint8_t)word(value, stages, COUNT(stages), "unknown stage");
     else if (strcmp(field, "fail") == 0) fail = byte(value);
-    else if (field[0] == 'l') *length(place(field + 1, LENGTHS)) = number(value, SIZE_MAX);
-    else if (field[0] == 'k') exchange.k[place(field + 1, CASTULFRISA_K)] = byte(value);
+    else if (field[0] == 'l') set_length(place(field + 1, LENGTHS), number(value, UINT64_MAX));
+    else if (field[0] == 'k') exchange[K_AT + place(field + 1, CASTULFRISA_K)] = byte(value);
     else bad("unknown field");
-    exchange.fail = exchange.stage == CASTULFRISA_FAILED ? fail : 0;
+    exchange[FAIL_AT] = exchange[STAGE_AT] == CASTULFRISA_FAILED ? fail : 0;
     put_number(0);
 }
 
 static void blank(void)
 {
-    memset(&exchange, 0, sizeof exchange);
+    memset(exchange, 0, sizeof exchange);
+    memset(wide, 0, sizeof wide);
     fail = 0;
-    exchange.stage = CASTULFRISA_FAILED;
+    exchange[MARK_AT] = MARK;
+    exchange[STAGE_AT] = CASTULFRISA_FAILED;
 }
 
 static void call_blank(char **t)
@@ -351,82 +407,96 @@ static void call_blank(char **t)
     put_number(0);
 }
 
-/* ---- steps. Parts are asked for first, with the record and the room that the step is about to get. */
+/* ---- steps */
 
 static void call_start(char **t)
 {
-    uint8_t role = byte(t[1]), method = byte(t[2]);
+    uint64_t role = byte(t[1]), method = byte(t[2]);
     bytes vc = lend(t[3]), vs = lend(t[4]), ic = lend(t[5]), is = lend(t[6]);
     fail = 0;
-    castulfrisa_answer a = castulfrisa_start(
-        role, method, vc.at, vc.len, vs.at, vs.len, ic.at, ic.len, is.at, is.len, room.at, room.len);
-    put_step(&a);
+    memset(wide, 0, sizeof wide);
+    put_step(castulfrisa_start(exchange, sizeof exchange, role, method, vc.at, vc.len, vs.at, vs.len, ic.at, ic.len, is.at, is.len,
+                               room.at, room.len));
 }
 
 static void call_ownc(char **t)
 {
     bytes c = lend(t[1]), out = lend(t[2]);
-    castulfrisa_answer a = castulfrisa_own_c(exchange, room.at, room.len, c.at, c.len, out.at, out.len);
-    put_step(&a);
-    put_count(a.count);
+    LEND(uint64_t, count);
+    put_step(castulfrisa_own_c(handed(), CASTULFRISA_EXCHANGE, room.at, room.len, c.at, c.len, out.at, out.len, &count));
+    put_count(count);
     put_out(out);
+}
+
+/* A part that was asked for ahead of the step, with the same exchange, room and payload, is the step's own, and so is its number. */
+static void same(uint64_t asked, castulfrisa_part a, uint64_t step, castulfrisa_part b)
+{
+    if (asked != step || a.start != b.start || a.len != b.len) bad("the library's step and its part's own call differ");
 }
 
 static void call_init(char **t)
 {
     bytes p = lend(t[1]);
-    castulfrisa_part c = castulfrisa_init_c(exchange, room.at, room.len, p.at, p.len);
-    castulfrisa_answer a = castulfrisa_read_init(exchange, room.at, room.len, p.at, p.len);
-    put_step(&a);
+    LEND(castulfrisa_part, asked);
+    LEND(castulfrisa_part, c);
+    uint64_t n = castulfrisa_init_c(handed(), CASTULFRISA_EXCHANGE, room.at, room.len, p.at, p.len, &asked);
+    uint64_t step = castulfrisa_read_init(handed(), CASTULFRISA_EXCHANGE, room.at, room.len, p.at, p.len, &c);
+    same(n, asked, step, c);
+    put_step(step);
     put_part(c, p);
 }
 
 static void call_reply(char **t)
 {
     bytes p = lend(t[1]);
-    castulfrisa_part host_key = castulfrisa_reply_host_key(exchange, room.at, room.len, p.at, p.len);
-    castulfrisa_part s = castulfrisa_reply_s(exchange, room.at, room.len, p.at, p.len);
-    castulfrisa_part signature = castulfrisa_reply_signature(exchange, room.at, room.len, p.at, p.len);
-    castulfrisa_answer a = castulfrisa_read_reply(exchange, room.at, room.len, p.at, p.len);
-    put_step(&a);
-    put_part(host_key, p);
-    put_part(s, p);
-    put_part(signature, p);
+    LEND(castulfrisa_reply, asked);
+    LEND(castulfrisa_reply, r);
+    uint64_t n[3] = {castulfrisa_reply_host_key(handed(), CASTULFRISA_EXCHANGE, room.at, room.len, p.at, p.len, &asked.host_key),
+                     castulfrisa_reply_s(handed(), CASTULFRISA_EXCHANGE, room.at, room.len, p.at, p.len, &asked.s),
+                     castulfrisa_reply_signature(handed(), CASTULFRISA_EXCHANGE, room.at, room.len, p.at, p.len, &asked.signature)};
+    uint64_t step = castulfrisa_read_reply(handed(), CASTULFRISA_EXCHANGE, room.at, room.len, p.at, p.len, &r);
+    same(n[0], asked.host_key, step, r.host_key);
+    same(n[1], asked.s, step, r.s);
+    same(n[2], asked.signature, step, r.signature);
+    put_step(step);
+    put_part(r.host_key, p);
+    put_part(r.s, p);
+    put_part(r.signature, p);
 }
 
 static void call_secret(char **t)
 {
     bool given = t[1][0] == 'G';
     if (!given && strcmp(t[1], "F") != 0) bad("the outcome is neither F nor G and a number");
-    size_t count = given ? number(t[1] + 1, SIZE_MAX) : 0;
+    uint64_t x_count = given ? number(t[1] + 1, UINT64_MAX) : 0;
     bytes x = lend(t[2]);
-    uint8_t kem = (uint8_t)word(t[3], kems, COUNT(kems), "the KEM is none of a, f and d");
+    uint64_t kem = word(t[3], kems, COUNT(kems), "the KEM is none of a, f and d");
     bytes digest = lend(t[4]), ks = lend(t[5]), s = lend(t[6]);
-    castulfrisa_answer a = castulfrisa_take_secret(
-        exchange, room.at, room.len, given, count, x.at, x.len, kem, digest.at, digest.len, ks.at, ks.len, s.at, s.len);
-    put_step(&a);
-    put_count(a.count);
+    LEND(uint64_t, count);
+    put_step(castulfrisa_take_secret(handed(), CASTULFRISA_EXCHANGE, room.at, room.len, given, x_count, x.at, x.len, kem, digest.at,
+                                     digest.len, ks.at, ks.len, s.at, s.len, &count));
+    put_count(count);
 }
 
 static void call_sign(char **t)
 {
     bytes signature = lend(t[1]), out = lend(t[2]), k_out = lend(t[3]);
-    castulfrisa_answer a = castulfrisa_sign(
-        exchange, room.at, room.len, signature.at, signature.len, out.at, out.len, k_out.at, k_out.len);
-    put_step(&a);
-    put_count(a.count);
-    put_count(a.second);
+    LEND(castulfrisa_signed, counts);
+    put_step(castulfrisa_sign(handed(), CASTULFRISA_EXCHANGE, room.at, room.len, signature.at, signature.len, out.at, out.len,
+                              k_out.at, k_out.len, &counts));
+    put_count(counts.reply);
+    put_count(counts.k);
     put_out(out);
     put_out(k_out);
 }
 
 static void call_verdict(char **t)
 {
-    bool signature = yes(t[1]), host_key = yes(t[2]);
+    uint64_t signature = number(t[1], 1), host_key = number(t[2], 1);
     bytes k_out = lend(t[3]);
-    castulfrisa_answer a = castulfrisa_verdict(exchange, room.at, room.len, signature, host_key, k_out.at, k_out.len);
-    put_step(&a);
-    put_count(a.count);
+    LEND(uint64_t, count);
+    put_step(castulfrisa_verdict(handed(), CASTULFRISA_EXCHANGE, room.at, room.len, signature, host_key, k_out.at, k_out.len, &count));
+    put_count(count);
     put_out(k_out);
 }
 
@@ -517,7 +587,9 @@ int main(int argc, char **argv)
     setvbuf(stdout, buffer, _IOFBF, sizeof buffer);
     signal(SIGPIPE, SIG_IGN); /* a reader that left is then an output that cannot be written, and is said */
     blank();
-    cursor = castulfrisa_open_list(NULL, 0, 0).cursor; /* a refused view */
+    castulfrisa_opened refused;
+    if (castulfrisa_open_list(NULL, 0, 0, &refused) == 0) bad("the library opens no bytes");
+    cursor = refused.cursor;
 
     while ((got = getline(&text, &text_room, stdin)) > 0) {
         size_t len = (size_t)got;

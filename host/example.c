@@ -1,97 +1,226 @@
-/* A client and a server complete an exchange with each other through the boundary, method 1. The primitives are fakes with fixed
-   outputs: both sides get the same X, and the signature is 64 fixed bytes. A real host puts its own in their place. */
+/* A client and a server complete one key exchange in one process, with curve25519-sha256 and an ssh-ed25519 host key, on OpenSSL's
+   libcrypto: the calls in their order, what goes in between, every number looked at, and what is wiped. Buffers stand for the network;
+   dock/ is a host over sockets. */
 #include "castulfrisa.h"
+#include <openssl/crypto.h>
+#include <openssl/evp.h>
+#include <openssl/rand.h>
 #include <stdio.h>
 #include <string.h>
 
-static const uint8_t *b(const char *s) { return (const uint8_t *)s; }
+#define ED25519 "ssh-ed25519"
+#define V_C "SSH-2.0-example_client"
+#define V_S "SSH-2.0-example_server"
+#define TEXT(s) (const uint8_t *)(s), sizeof(s) - 1
+#define EXCHANGE(a) (a)->exchange, sizeof (a)->exchange
+#define ROOM(a) (a)->room, sizeof (a)->room
 
-static int stop(const char *where, uint8_t number)
+/* What one side keeps of an exchange: one place, no copies, wiped as a whole. */
+struct side {
+    uint8_t exchange[CASTULFRISA_EXCHANGE], room[CASTULFRISA_ROOM];
+    EVP_PKEY *own; /* the ephemeral key */
+    uint8_t x[32], h[32], k[CASTULFRISA_K];
+    uint64_t k_len;
+};
+
+struct message { uint8_t bytes[CASTULFRISA_REPLY]; uint64_t len; };
+
+static struct message i_c, i_s, init, reply; /* what went over the network */
+static EVP_PKEY *host_key;                   /* the server's */
+static uint8_t known[64];                    /* its blob, K_S, which the client knows */
+static uint64_t known_len;
+
+/* ---- numbers, and the primitives */
+
+static int accepted(const char *call, uint64_t number)
 {
-    printf("%s: %u\n", where, (unsigned)number);
+    if (number != CASTULFRISA_OK) fprintf(stderr, "%s: %u, %s\n", call, (unsigned)number, castulfrisa_text(number));
+    return number == CASTULFRISA_OK;
+}
+
+/* A new key pair, and its public value for the wire. */
+static int draw(EVP_PKEY **key, const char *type, uint8_t value[32])
+{
+    size_t len = 32;
+    *key = EVP_PKEY_Q_keygen(NULL, NULL, type);
+    return *key != NULL && EVP_PKEY_get_raw_public_key(*key, value, &len) == 1 && len == 32;
+}
+
+/* X from the own key and the peer's value, as the primitive gives it, and how many bytes it gave. */
+static int x25519(EVP_PKEY *own, const uint8_t *value, uint64_t len, uint8_t x[32], size_t *x_count)
+{
+    EVP_PKEY *peer = EVP_PKEY_new_raw_public_key_ex(NULL, "X25519", NULL, value, len);
+    EVP_PKEY_CTX *context = EVP_PKEY_CTX_new_from_pkey(NULL, own, NULL);
+    int given;
+    *x_count = 32;
+    given = peer != NULL && context != NULL && EVP_PKEY_derive_init(context) == 1 && EVP_PKEY_derive_set_peer(context, peer) == 1
+        && EVP_PKEY_derive(context, x, x_count) == 1;
+    EVP_PKEY_CTX_free(context);
+    EVP_PKEY_free(peer);
+    return given;
+}
+
+/* H: the digest of the room's beginning. */
+static int hash(struct side *a, uint64_t count)
+{
+    size_t len = 0;
+    return EVP_Q_digest(NULL, "SHA256", NULL, a->room, count, a->h, &len) == 1 && len == sizeof a->h;
+}
+
+static int sign(const uint8_t h[32], uint8_t signature[64])
+{
+    EVP_MD_CTX *context = EVP_MD_CTX_new();
+    size_t len = 64;
+    int made = context != NULL && EVP_DigestSignInit_ex(context, NULL, NULL, NULL, NULL, host_key, NULL) == 1
+        && EVP_DigestSign(context, signature, &len, h, 32) == 1 && len == 64;
+    EVP_MD_CTX_free(context);
+    return made;
+}
+
+static int verify(const uint8_t key[32], const uint8_t signature[64], const uint8_t h[32])
+{
+    EVP_PKEY *public_key = EVP_PKEY_new_raw_public_key_ex(NULL, "ED25519", NULL, key, 32);
+    EVP_MD_CTX *context = EVP_MD_CTX_new();
+    int holds = public_key != NULL && context != NULL
+        && EVP_DigestVerifyInit_ex(context, NULL, NULL, NULL, NULL, public_key, NULL) == 1
+        && EVP_DigestVerify(context, signature, 64, h, 32) == 1;
+    EVP_MD_CTX_free(context);
+    EVP_PKEY_free(public_key);
+    return holds;
+}
+
+/* ---- blobs of Ed25519: the name and one value, each as a string */
+
+static int write_blob(uint8_t *out, uint64_t out_len, const uint8_t *value, uint64_t value_len, uint64_t *len)
+{
+    uint64_t name, rest;
+    if (!accepted("write_string", castulfrisa_write_string(out, out_len, TEXT(ED25519), &name))
+        || !accepted("write_string", castulfrisa_write_string(out + name, out_len - name, value, value_len, &rest))) return 0;
+    *len = name + rest;
     return 1;
 }
 
-static size_t kexinit(uint8_t *out, size_t len, const char *cookie)
+/* The value in a blob; NULL for any other blob. */
+static const uint8_t *read_blob(const uint8_t *blob, uint64_t len, uint64_t value_len)
 {
-    return castulfrisa_write_kexinit(
-        out, len, b(cookie), 16, b("curve25519-sha256"), 17, b("ssh-ed25519"), 11, b("aes256-ctr"), 10, b("aes256-ctr"), 10,
-        b("hmac-sha2-256"), 13, b("hmac-sha2-256"), 13, b("none"), 4, b("none"), 4, b(""), 0, b(""), 0, false, 0).count;
+    castulfrisa_string name, value;
+    if (castulfrisa_read_string(blob, len, &name) != 0 || name.body.len != sizeof ED25519 - 1
+        || memcmp(blob + name.body.start, ED25519, sizeof ED25519 - 1) != 0
+        || castulfrisa_read_string(blob + name.rest.start, name.rest.len, &value) != 0 || value.body.len != value_len
+        || value.rest.len != 0)
+        return NULL;
+    return blob + name.rest.start + value.body.start;
+}
+
+/* ---- both sides, up to the start */
+
+static int write_kexinit(struct message *m)
+{
+    static const castulfrisa_bytes lists[CASTULFRISA_LISTS] = {
+        {TEXT("curve25519-sha256")}, {TEXT(ED25519)}, {TEXT("aes256-ctr")}, {TEXT("aes256-ctr")}, {TEXT("hmac-sha2-256")},
+        {TEXT("hmac-sha2-256")}, {TEXT("none")}, {TEXT("none")}, {TEXT("")}, {TEXT("")}};
+    uint8_t cookie[CASTULFRISA_COOKIE], joined[256];
+    uint64_t ends[CASTULFRISA_LISTS], len = castulfrisa_join(lists, joined, sizeof joined, ends), number;
+    castulfrisa_proposed told;
+    if (len > sizeof joined || RAND_bytes(cookie, sizeof cookie) != 1) return 0;
+    number = castulfrisa_write_kexinit(m->bytes, sizeof m->bytes, cookie, sizeof cookie, joined, len, ends, 0, 0, &told);
+    if (told.bad_list != 0) fprintf(stderr, "list %u is bad\n", (unsigned)told.bad_list);
+    m->len = told.count;
+    return accepted("write_kexinit", number);
+}
+
+/* The choice, and the exchange begun. */
+static int start(struct side *a, uint64_t role)
+{
+    castulfrisa_choice choice;
+    return accepted("choose", castulfrisa_choose(i_c.bytes, i_c.len, i_s.bytes, i_s.len, &choice))
+        && accepted("start", castulfrisa_start(EXCHANGE(a), role, choice.method, TEXT(V_C), TEXT(V_S), i_c.bytes, i_c.len, i_s.bytes,
+                                               i_s.len, ROOM(a)));
+}
+
+/* ---- the dance: INIT, REPLY, and the verdict. From the secret step on each call leaves K on the stack, accepted or not: what makes one
+   of them wipes it. */
+
+static int client_begins(struct side *a)
+{
+    uint8_t c[32];
+    return start(a, CASTULFRISA_CLIENT) && draw(&a->own, "X25519", c)
+        && accepted("own_c", castulfrisa_own_c(EXCHANGE(a), ROOM(a), c, sizeof c, init.bytes, sizeof init.bytes, &init.len));
+}
+
+/* What the primitive gave goes to the core, also that it failed; then H. K_S and S are a server's. */
+static int take_secret(struct side *a, const uint8_t *value, uint64_t value_len, const uint8_t *ks, uint64_t ks_len, const uint8_t *s,
+                       uint64_t s_len)
+{
+    size_t x_count;
+    uint64_t count, given = x25519(a->own, value, value_len, a->x, &x_count) ? 1 : 0;
+    uint64_t number = castulfrisa_take_secret(EXCHANGE(a), ROOM(a), given, x_count, a->x, sizeof a->x, CASTULFRISA_KEM_ABSENT, NULL, 0, ks,
+                                              ks_len, s, s_len, &count);
+    castulfrisa_wipe_stack();
+    return accepted("take_secret", number) && hash(a, count);
+}
+
+static int server_answers(struct side *a)
+{
+    uint8_t s[32], signature[64], blob[128];
+    uint64_t blob_len;
+    castulfrisa_part c;
+    castulfrisa_signed counts;
+    uint64_t number;
+    if (!start(a, CASTULFRISA_SERVER) || !draw(&a->own, "X25519", s)
+        || !accepted("read_init", castulfrisa_read_init(EXCHANGE(a), ROOM(a), init.bytes, init.len, &c))
+        || !take_secret(a, init.bytes + c.start, c.len, known, known_len, s, sizeof s)
+        || !sign(a->h, signature) || !write_blob(blob, sizeof blob, signature, sizeof signature, &blob_len)) return 0;
+    number = castulfrisa_sign(EXCHANGE(a), ROOM(a), blob, blob_len, reply.bytes, sizeof reply.bytes, a->k, sizeof a->k, &counts);
+    castulfrisa_wipe_stack();
+    reply.len = counts.reply;
+    a->k_len = counts.k;
+    return accepted("sign", number);
+}
+
+/* Two answers, each 1 or 0: whether the signature holds over H under K_S, and whether K_S is the host key that is known. */
+static int verdict(struct side *a, const castulfrisa_reply *parts)
+{
+    const uint8_t *ks = reply.bytes + parts->host_key.start;
+    const uint8_t *key = read_blob(ks, parts->host_key.len, 32);
+    const uint8_t *signature = read_blob(reply.bytes + parts->signature.start, parts->signature.len, 64);
+    uint64_t holds = key != NULL && signature != NULL && verify(key, signature, a->h) ? 1 : 0;
+    uint64_t is_known = parts->host_key.len == known_len && memcmp(ks, known, known_len) == 0 ? 1 : 0;
+    uint64_t number = castulfrisa_verdict(EXCHANGE(a), ROOM(a), holds, is_known, a->k, sizeof a->k, &a->k_len);
+    castulfrisa_wipe_stack();
+    return accepted("verdict", number);
+}
+
+static int client_ends(struct side *a)
+{
+    castulfrisa_reply parts;
+    return accepted("read_reply", castulfrisa_read_reply(EXCHANGE(a), ROOM(a), reply.bytes, reply.len, &parts))
+        && take_secret(a, reply.bytes + parts.s.start, parts.s.len, NULL, 0, NULL, 0) && verdict(a, &parts);
+}
+
+/* Exchange, room, X, H and K; libcrypto clears a private key that it frees. */
+static void wipe(struct side *a)
+{
+    EVP_PKEY_free(a->own);
+    castulfrisa_wipe((uint8_t *)a, sizeof *a);
 }
 
 int main(void)
 {
-    static const char vc[] = "SSH-2.0-client", vs[] = "SSH-2.0-server";
-    static uint8_t ic[CASTULFRISA_KEXINIT_MOST], is[CASTULFRISA_KEXINIT_MOST];
-    static uint8_t client_room[CASTULFRISA_ROOM], server_room[CASTULFRISA_ROOM];
-    static uint8_t init[CASTULFRISA_INIT], reply[CASTULFRISA_REPLY];
-    static uint8_t client_k[CASTULFRISA_K], server_k[CASTULFRISA_K];
-    uint8_t c[32], s[32], x[32], ks[51], signature[64];
-    castulfrisa_answer client, server;
-    castulfrisa_part p;
-    size_t init_len, reply_len, hashed;
+    static struct side client, server;
+    uint8_t value[32];
+    int good = castulfrisa_version() == CASTULFRISA_VERSION; /* or header and archive are of different days */
 
-    memset(c, 0xc1, sizeof c);          /* the client's public value */
-    memset(s, 0x51, sizeof s);          /* the server's */
-    memset(x, 0x99, sizeof x);          /* what X25519 gives both */
-    memset(ks, 0x4b, sizeof ks);        /* the host key blob */
-    memset(signature, 0x77, sizeof signature);
+    good = good && draw(&host_key, "ED25519", value) && write_blob(known, sizeof known, value, sizeof value, &known_len);
+    good = good && write_kexinit(&i_c) && write_kexinit(&i_s);
+    good = good && client_begins(&client) && server_answers(&server) && client_ends(&client);
 
-    /* KEXINIT both ways, and the choice from them */
-    size_t ic_len = kexinit(ic, sizeof ic, "client's  cookie");
-    size_t is_len = kexinit(is, sizeof is, "server's  cookie");
-    castulfrisa_choice choice = castulfrisa_choose(ic, ic_len, is, is_len);
-    if (choice.number != 0 || choice.method != 1) return stop("choose", choice.number);
-
-    /* both start */
-    client = castulfrisa_start(CASTULFRISA_CLIENT, choice.method, b(vc), sizeof vc - 1, b(vs), sizeof vs - 1, ic, ic_len, is, is_len, client_room, sizeof client_room);
-    server = castulfrisa_start(CASTULFRISA_SERVER, choice.method, b(vc), sizeof vc - 1, b(vs), sizeof vs - 1, ic, ic_len, is, is_len, server_room, sizeof server_room);
-    if (client.number || server.number) return stop("start", client.number ? client.number : server.number);
-
-    /* client: own C, INIT goes out */
-    client = castulfrisa_own_c(client.record, client_room, sizeof client_room, c, sizeof c, init, sizeof init);
-    if (client.number) return stop("own_c", client.number);
-    init_len = client.count;
-
-    /* server: INIT comes in, with C for its primitive */
-    p = castulfrisa_init_c(server.record, server_room, sizeof server_room, init, init_len);
-    if (p.len != sizeof c || memcmp(init + p.start, c, p.len) != 0) return stop("init_c", 0);
-    server = castulfrisa_read_init(server.record, server_room, sizeof server_room, init, init_len);
-    if (server.number) return stop("read_init", server.number);
-
-    /* server: the secret; its host hashes the room's first `count` bytes and signs the digest */
-    server = castulfrisa_take_secret(server.record, server_room, sizeof server_room, true, sizeof x, x, sizeof x, CASTULFRISA_KEM_ABSENT, NULL, 0, ks, sizeof ks, s, sizeof s);
-    if (server.number) return stop("server's take_secret", server.number);
-    hashed = server.count;
-
-    /* server: the signature, REPLY goes out */
-    server = castulfrisa_sign(server.record, server_room, sizeof server_room, signature, sizeof signature, reply, sizeof reply, server_k, sizeof server_k);
-    if (server.number) return stop("sign", server.number);
-    reply_len = server.count;
-
-    /* client: REPLY comes in, with K_S, S and the signature for its primitives */
-    p = castulfrisa_reply_host_key(client.record, client_room, sizeof client_room, reply, reply_len);
-    if (p.len != sizeof ks || memcmp(reply + p.start, ks, p.len) != 0) return stop("reply_host_key", 0);
-    p = castulfrisa_reply_s(client.record, client_room, sizeof client_room, reply, reply_len);
-    if (p.len != sizeof s || memcmp(reply + p.start, s, p.len) != 0) return stop("reply_s", 0);
-    p = castulfrisa_reply_signature(client.record, client_room, sizeof client_room, reply, reply_len);
-    if (p.len != sizeof signature || memcmp(reply + p.start, signature, p.len) != 0) return stop("reply_signature", 0);
-    client = castulfrisa_read_reply(client.record, client_room, sizeof client_room, reply, reply_len);
-    if (client.number) return stop("read_reply", client.number);
-
-    /* client: the secret; its host hashes the room's first `count` bytes and checks signature and host key */
-    client = castulfrisa_take_secret(client.record, client_room, sizeof client_room, true, sizeof x, x, sizeof x, CASTULFRISA_KEM_ABSENT, NULL, 0, NULL, 0, NULL, 0);
-    if (client.number) return stop("client's take_secret", client.number);
-    if (client.count != hashed || memcmp(client_room, server_room, hashed) != 0) return stop("hash inputs differ", 0);
-
-    /* client: the verdict */
-    client = castulfrisa_verdict(client.record, client_room, sizeof client_room, true, true, client_k, sizeof client_k);
-    if (client.number) return stop("verdict", client.number);
-
-    if (client.record.stage != CASTULFRISA_COMPLETE || server.record.stage != CASTULFRISA_COMPLETE) return stop("not complete", 0);
-    if (client.count != server.second || client.count != 4 + 1 + sizeof x) return stop("lengths of K differ", 0);
-    if (memcmp(client_k, server_k, CASTULFRISA_K) != 0) return stop("K differs", 0);
-    if (client_k[4] != 0 || client_k[5] != 0x99) return stop("K is no mpint of X", 0);
-    puts("ok");
-    return 0;
+    /* here a host derives its keys from K, H and the session identifier (RFC 4253, 7.2); this one compares */
+    good = good && client.k_len > 4 && client.k_len == server.k_len && CRYPTO_memcmp(client.k, server.k, sizeof client.k) == 0
+        && CRYPTO_memcmp(client.h, server.h, sizeof client.h) == 0;
+    wipe(&client);
+    wipe(&server);
+    EVP_PKEY_free(host_key);
+    puts(good ? "ok" : "failed");
+    return good ? 0 : 1;
 }

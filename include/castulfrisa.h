@@ -1,64 +1,96 @@
-/* castulfrisa: the key-exchange core of SSH, as one static library, libcastulfrisa.a. C99 and C++; x86-64, System V.
+/* castulfrisa: the key-exchange core of SSH, as one static library, libcastulfrisa.a. C99 and C++, 32 and 64 bits.
 
    It reads and writes the messages, negotiates, encodes the shared secret and builds the hash input. Random numbers, curve and KEM
    primitives, digests, signatures and known-host lists are the host's; so are memcpy and memset, which the library calls. It keeps
    nothing: no memory, no pointer, no state. It takes any bytes and any call at any time, and every call ends.
 
-   BUFFERS
-   - A buffer crosses as a pointer and a length in bytes. A length of 0 takes any pointer, also NULL.
-   - Every buffer is the caller's, before, during and after a call. `const` buffers are read and never written. A buffer that is
-     written must share no byte with any other buffer of the same call.
+   WHAT CROSSES
+   - Buffers as a pointer and a 64-bit length in bytes, 64-bit numbers, and pointers to 64-bit numbers that the call fills in; nothing
+     else, so that one library serves every calling convention. The structs below are runs of 64-bit numbers and cross as a pointer.
+   - A buffer's length of 0 takes any pointer, also NULL. A pointer to numbers is never NULL, and aligned as the compiler aligns them.
+   - Every buffer is the caller's, before, during and after a call. `const` buffers are read and never written. What is written,
+     buffer or numbers, shares no byte with anything else of the same call.
    - An output is written from its first byte on. Bytes past those that are counted stay as they were; but the output for K gets all
      CASTULFRISA_K bytes, zeros after K.
 
    ANSWERS
-   - Every answer has a number: 0, or the first cause against the call (enum castulfrisa_number). There is no other error channel.
-   - On any number but 0 all counts are 0, all parts are {0, 0} and all outputs are as they were.
+   - A call returns its number: 0, or the first cause against it (enum castulfrisa_number; castulfrisa_text has a sentence for each).
+     There is no other error channel.
+   - On any number but 0 all that is told through lent numbers is 0, but a bad list's number and a cursor (castulfrisa_next_name's stays, a
+     refused castulfrisa_open_list's yields only the end), and all outputs are as they were.
    - A part is a place in the payload that was handed in: bytes payload[start] to payload[start + len - 1].
-   - A bool is 0 or 1, in both directions.
+   - Numbers are judged as they come, all 64 bits: 257 is no method. A yes is 1; every other number, 2 too, is a no. A yes/no that is
+     told is 1 or 0.
 
    AN EXCHANGE
-   - It is a castulfrisa_record of numbers, by value: hand in the one of the last answer, keep the one that comes back. Put no number
-     into it. A record that no exchange has is answered 1 and comes back as it was.
+   - It is a buffer of CASTULFRISA_EXCHANGE bytes, the caller's, which only the library reads and writes: castulfrisa_start makes it,
+     every step changes it in place. Keep one, and no copy: a copy from before a fault is an exchange that has not failed, and it has K.
+     Bytes that no exchange has, and buffers of another length, are answered 1 and stay.
    - The room is the caller's buffer of at least CASTULFRISA_ROOM bytes, the same at every call of one exchange, and nobody else
      writes to it in between. It begins with the fields of the hash input so far.
-   - From the secret step on, the record, every answer that carries it, and the room hold the shared secret. Wipe them when the keys
-     are derived: the library wipes the room and its record only on a peer's fault, and never the host's copies. */
+   - From the secret step on, exchange and room hold the shared secret. The library wipes both on a peer's fault only: when the keys are
+     derived, castulfrisa_wipe them, and castulfrisa_wipe_stack what the calls left below them. */
 #ifndef CASTULFRISA_H
 #define CASTULFRISA_H
 
-#include <stdbool.h>
-#include <stddef.h>
 #include <stdint.h>
 
 #ifdef __cplusplus
 extern "C" {
 #endif
 
+/* The number of this header. castulfrisa_version() tells the archive's: where the two differ, they are of different days. It goes up
+   by one where an entry or a size changes. */
+#define CASTULFRISA_VERSION 2
+
+#if defined(__GNUC__)
+#define CASTULFRISA_MUST_USE __attribute__((warn_unused_result))
+#else
+#define CASTULFRISA_MUST_USE
+#endif
+
+/* Of a function in this header: a frame of its own, with nothing of the compiler's between the caller's and its one object. */
+#if defined(__clang__) || (defined(__GNUC__) && __GNUC__ >= 11)
+#define CASTULFRISA_NOINLINE __attribute__((noinline, unused, no_stack_protector))
+#elif defined(__GNUC__)
+#define CASTULFRISA_NOINLINE __attribute__((noinline, unused))
+#else
+#define CASTULFRISA_NOINLINE inline
+#endif
+
 /* ---- sizes, in bytes */
 
+#define CASTULFRISA_EXCHANGE 90        /* the exchange, exactly */
 #define CASTULFRISA_ROOM 14156         /* the room, at least */
 #define CASTULFRISA_INIT 1670          /* the output for INIT, at least, in every method */
 #define CASTULFRISA_REPLY 5774         /* the output for REPLY, at least, in every method */
 #define CASTULFRISA_K 71               /* the output for K, at least; K stands at its beginning, zeros after it up to 71 */
 #define CASTULFRISA_V_MOST 253         /* V_C, V_S: 1 to this, without the bytes 0, 10 and 13 */
-#define CASTULFRISA_KEXINIT_MOST 4096  /* I_C, I_S and any KEXINIT: 1 to this */
+#define CASTULFRISA_KEXINIT_MOST 4096  /* I_C, I_S and any KEXINIT: 1 to this, the first byte 20 */
 #define CASTULFRISA_BLOB_MOST 2048     /* K_S and signature: 1 to this */
 #define CASTULFRISA_PAYLOAD_MOST 32768 /* INIT and REPLY as received: 1 to this */
 #define CASTULFRISA_VALUE_MOST 1665    /* C and S of any method; castulfrisa_method_sizes has each */
 #define CASTULFRISA_X_MOST 66          /* the classical output X of any method */
 #define CASTULFRISA_DIGEST_MOST 64     /* the digest of any method */
 #define CASTULFRISA_COOKIE 16          /* a KEXINIT's cookie */
+#define CASTULFRISA_LISTS 10           /* a KEXINIT's lists; this is a count */
+#define CASTULFRISA_NAME_MOST 28       /* the name of any method */
+
+/* What castulfrisa_wipe_stack wipes: no call reaches as far (docs/MEASUREMENTS.md). A host whose loader looks memcpy up at its first call
+   defines more. */
+#ifndef CASTULFRISA_STACK
+#define CASTULFRISA_STACK 4096
+#endif
 
 /* ---- numbers given back
-   1 to 5 and 19 to 22: nothing changes, neither exchange, room nor output.
-   10 to 18 in a step are a peer's fault: the whole room and the record's k become zeros, its lengths 0, and the exchange has failed
-   for good with that number; role and method stay, and so do outputs. Where there is no exchange (strings, mpints, KEXINIT, choice)
-   10 to 13 change nothing. */
+   1 to 5 and 19 to 22: nothing changes, neither exchange, room nor output; but a refused start leaves a failed exchange.
+   10 to 18 in a step are a peer's fault: the whole room becomes zeros and the exchange has failed for good with that number; of it only
+   role, method and number are left, no length and no K. Outputs stay. Where there is no exchange (strings, mpints, KEXINIT, choice) 10
+   to 13 change nothing. */
 
 enum castulfrisa_number {
     CASTULFRISA_OK = 0,                  /* accepted */
-    CASTULFRISA_NOT_DUE = 1,             /* the step is not due, also when complete or failed; or the record is no exchange's */
+    CASTULFRISA_NOT_DUE = 1,             /* the step is not due, also when complete or failed; or the bytes are no exchange's */
     CASTULFRISA_NO_METHOD = 2,           /* method not 1 to 9, or role neither client nor server */
     CASTULFRISA_SHORT_ROOM = 3,          /* room too short */
     CASTULFRISA_BAD_INPUT = 4,           /* a field, outcome or digest handed in by the caller has a wrong length or form */
@@ -92,6 +124,20 @@ enum castulfrisa_method {
     CASTULFRISA_MLKEM768_X25519_SHA256 = 9
 };
 
+/* The ten lists of a KEXINIT, as RFC 4253, section 7.1 has them; c2s is client to server. */
+enum castulfrisa_list {
+    CASTULFRISA_LIST_KEX = 1,
+    CASTULFRISA_LIST_HOST_KEY = 2,
+    CASTULFRISA_LIST_CIPHER_C2S = 3,
+    CASTULFRISA_LIST_CIPHER_S2C = 4,
+    CASTULFRISA_LIST_MAC_C2S = 5,
+    CASTULFRISA_LIST_MAC_S2C = 6,
+    CASTULFRISA_LIST_COMPRESSION_C2S = 7,
+    CASTULFRISA_LIST_COMPRESSION_S2C = 8,
+    CASTULFRISA_LIST_LANGUAGE_C2S = 9,
+    CASTULFRISA_LIST_LANGUAGE_S2C = 10
+};
+
 enum castulfrisa_stage {
     CASTULFRISA_STARTED = 0,     /* V_C, V_S, I_C and I_S are in the room */
     CASTULFRISA_C_SENT = 1,      /* client: own C went out */
@@ -104,189 +150,265 @@ enum castulfrisa_stage {
 
 enum castulfrisa_kem { CASTULFRISA_KEM_ABSENT = 0, CASTULFRISA_KEM_FAILED = 1, CASTULFRISA_KEM_DONE = 2 };
 
-/* ---- what goes in and comes back, all by value */
+/* ---- what calls tell, each a run of 64-bit numbers */
 
-typedef struct { size_t start, len; } castulfrisa_part;
-typedef struct { uint8_t number; castulfrisa_part body, rest; } castulfrisa_string_read;
-typedef struct { uint8_t number; int8_t sign; castulfrisa_part body, rest; } castulfrisa_mpint_read;
-typedef struct { uint8_t number; size_t count; } castulfrisa_written;
+typedef struct { uint64_t start, len; } castulfrisa_part;
+typedef struct { castulfrisa_part body, rest; } castulfrisa_string;
 
 typedef struct {
-    size_t c_len, c_classical; /* C's length, and where its classical part begins behind the KEM's; 0 where there is no KEM */
-    size_t s_len, s_classical; /* S's, likewise */
-    size_t x_len, digest_len;  /* lengths of the classical output X and of the digest */
-    bool hybrid, zero_check;   /* whether a KEM and a digest belong to it; whether an all-zero X is refused */
+    uint64_t c_len, c_classical; /* C's length, and where its classical part begins behind the KEM's; 0 where there is no KEM */
+    uint64_t s_len, s_classical; /* S's, likewise */
+    uint64_t x_len, digest_len;  /* lengths of the classical output X and of the digest */
+    uint64_t hybrid, zero_check; /* whether a KEM and a digest belong to it; whether an all-zero X is refused */
 } castulfrisa_sizes;
 
 /* A place in a list, as castulfrisa_open_list makes it. */
-typedef struct { size_t at, end; } castulfrisa_cursor;
+typedef struct { uint64_t at, end; } castulfrisa_cursor;
 
 typedef struct {
-    uint8_t number;
-    bool found;                /* false at the list's end and at a bad name */
-    castulfrisa_part name;
-    castulfrisa_cursor cursor; /* behind the name; the same one where none was found */
-} castulfrisa_next;
-
-typedef struct {
-    uint8_t number;
     castulfrisa_part cookie;
-    bool follows;              /* first_kex_packet_follows */
-    uint32_t reserved;         /* as found */
+    uint64_t follows;          /* first_kex_packet_follows */
+    uint64_t reserved;         /* as found */
     castulfrisa_cursor cursor; /* at the list's beginning */
 } castulfrisa_opened;
 
 typedef struct {
-    uint8_t number, method;            /* method: 1 to 9 */
-    castulfrisa_part host_key;         /* the host key name, a part of the client's payload */
-    bool ignore_client, ignore_server; /* whether that side's next packet is a wrong guess, to be ignored */
+    uint64_t count;    /* bytes written */
+    uint64_t bad_list; /* enum castulfrisa_list: the first that is bad; 0 where none is */
+} castulfrisa_proposed;
+
+typedef struct {
+    uint64_t method;                       /* 1 to 9 */
+    castulfrisa_part host_key;             /* the host key name, a part of the client's payload */
+    uint64_t ignore_client, ignore_server; /* whether that side's next packet is a wrong guess, to be ignored */
 } castulfrisa_choice;
 
-/* Lengths of the fields in the room, 0 where a field is missing. */
-typedef struct { size_t vc, vs, ic, is, ks, c, s; } castulfrisa_lengths;
+typedef struct { castulfrisa_part host_key, s, signature; } castulfrisa_reply;
 
 typedef struct {
-    uint8_t stage, fail;      /* enum castulfrisa_stage; the number that ended a failed exchange, else 0 */
-    uint8_t role, method;     /* 0 in a start that was refused */
-    castulfrisa_lengths lens;
-    uint8_t k[CASTULFRISA_K]; /* K as it is hashed, zeros after it; all zeros until the secret step. Wipe it. */
-} castulfrisa_record;
+    uint64_t reply; /* REPLY's bytes */
+    uint64_t k;     /* K's, its four length bytes included */
+} castulfrisa_signed;
 
 typedef struct {
-    uint8_t number;
-    size_t count, second; /* as each function says; second is 0 but at castulfrisa_sign */
-    castulfrisa_record record;
-} castulfrisa_answer;
+    uint64_t stage, fail;  /* enum castulfrisa_stage; the number that ended a failed exchange, else 0 */
+    uint64_t role, method; /* 0 in a start that was refused */
+} castulfrisa_told;
 
 /* ---- strings and mpints (RFC 4251, section 5) */
 
 /* Reads the string at the front of s: body, and the rest behind it, as parts of s.
    12: s is shorter than the string, or than its four length bytes. */
-castulfrisa_string_read castulfrisa_read_string(const uint8_t *s, size_t s_len);
+CASTULFRISA_MUST_USE uint64_t castulfrisa_read_string(const uint8_t *s, uint64_t s_len, castulfrisa_string *parts);
 
 /* Writes body as a string into out. Count: 4 + body_len.
    4: body above 4,294,967,295 bytes; 5: out shorter than the count. */
-castulfrisa_written castulfrisa_write_string(uint8_t *out, size_t out_len, const uint8_t *body, size_t body_len);
+CASTULFRISA_MUST_USE uint64_t castulfrisa_write_string(
+    uint8_t *out, uint64_t out_len, const uint8_t *body, uint64_t body_len, uint64_t *count);
 
 /* Reads the mpint at the front of s: sign -1, 0 or 1, its two's complement body, and the rest behind it, as parts of s.
    12: as above; 22: the body could be shorter. */
-castulfrisa_mpint_read castulfrisa_read_mpint(const uint8_t *s, size_t s_len);
+CASTULFRISA_MUST_USE uint64_t castulfrisa_read_mpint(const uint8_t *s, uint64_t s_len, int64_t *sign, castulfrisa_string *parts);
 
 /* Writes a number, any two's complement bytes with the high byte first (none meaning zero), as an mpint into out. Count: bytes
    written, 4 and the shortest body's. 4: a body above 4,294,967,295 bytes; 5: out shorter than the count. */
-castulfrisa_written castulfrisa_write_mpint(uint8_t *out, size_t out_len, const uint8_t *bytes, size_t bytes_len);
+CASTULFRISA_MUST_USE uint64_t castulfrisa_write_mpint(
+    uint8_t *out, uint64_t out_len, const uint8_t *bytes, uint64_t bytes_len, uint64_t *count);
 
 /* ---- methods */
 
 /* The number of the method of this name, 1 to 9; 0 with none. */
-uint8_t castulfrisa_method_number(const uint8_t *name, size_t name_len);
+CASTULFRISA_MUST_USE uint64_t castulfrisa_method_number(const uint8_t *name, uint64_t name_len);
 
-/* The sizes of a method; all 0 for a number that is none. */
-castulfrisa_sizes castulfrisa_method_sizes(uint8_t method);
+/* Writes the name of a method into out, with no zero behind it. Count: its bytes. 2: method; 5: out shorter than the name. */
+CASTULFRISA_MUST_USE uint64_t castulfrisa_method_name(uint64_t method, uint8_t *out, uint64_t out_len, uint64_t *count);
+
+/* The sizes of a method. 2: method, and all of them 0. */
+CASTULFRISA_MUST_USE uint64_t castulfrisa_method_sizes(uint64_t method, castulfrisa_sizes *sizes);
 
 /* ---- KEXINIT (RFC 4253, section 7.1) */
 
-/* Writes a KEXINIT into out, its lists as they stand on the wire: names parted by commas, or nothing. `_in` is client to server.
-   Count: bytes written, 62 and the lists'. 4: cookie not of 16 bytes, a bad list, or a total above 4,096; 5: out shorter than the
-   count. */
-castulfrisa_written castulfrisa_write_kexinit(
-    uint8_t *out, size_t out_len,
-    const uint8_t *cookie, size_t cookie_len,
-    const uint8_t *kex, size_t kex_len,
-    const uint8_t *host_key, size_t host_key_len,
-    const uint8_t *cipher_in, size_t cipher_in_len,
-    const uint8_t *cipher_out, size_t cipher_out_len,
-    const uint8_t *mac_in, size_t mac_in_len,
-    const uint8_t *mac_out, size_t mac_out_len,
-    const uint8_t *compression_in, size_t compression_in_len,
-    const uint8_t *compression_out, size_t compression_out_len,
-    const uint8_t *language_in, size_t language_in_len,
-    const uint8_t *language_out, size_t language_out_len,
-    bool follows, uint32_t reserved);
+/* Writes a KEXINIT into out. The ten lists, as they stand on the wire (names parted by commas, or nothing), stand one behind another in
+   lists; ends[i] is where list i + 1 ends, counted from the first byte of lists, and the last ends with them. castulfrisa_join makes
+   both from ten pointers and lengths. Count: bytes written, 62 and the lists'.
+   4: a bad list, which is named (a bad name, an end ahead of its beginning or behind lists); or a cookie not of 16 bytes, bytes behind
+   the last list, a reserved number above 32 bits, a total above 4,096. 5: out shorter than the count. */
+CASTULFRISA_MUST_USE uint64_t castulfrisa_write_kexinit(
+    uint8_t *out, uint64_t out_len,
+    const uint8_t *cookie, uint64_t cookie_len,
+    const uint8_t *lists, uint64_t lists_len,
+    const uint64_t ends[CASTULFRISA_LISTS],
+    uint64_t follows, uint64_t reserved,
+    castulfrisa_proposed *told);
 
-/* Opens a payload for one of its lists, 1 to 10: cookie, boolean, reserved number, and a cursor for castulfrisa_next_name. Names are
-   judged only as they are yielded. A refusal's cursor yields only the end. 4: list number; 10 to 13: the payload. */
-castulfrisa_opened castulfrisa_open_list(const uint8_t *payload, size_t payload_len, size_t list);
+/* Opens a payload for one of its lists (enum castulfrisa_list): cookie, boolean, reserved number, and a cursor for
+   castulfrisa_next_name. Names are judged only as they are yielded. A refusal's cursor yields only the end.
+   4: list number; 10 to 13: the payload. */
+CASTULFRISA_MUST_USE uint64_t castulfrisa_open_list(
+    const uint8_t *payload, uint64_t payload_len, uint64_t list, castulfrisa_opened *opened);
 
-/* The next name, as a part of the payload that was opened, and the cursor behind it. At the end found is false and the number 0; at a
-   bad name found is false and the number 19; in both cases the cursor stays. Any other cursor is answered too. */
-castulfrisa_next castulfrisa_next_name(const uint8_t *payload, size_t payload_len, castulfrisa_cursor cursor);
+/* The next name, as a part of the payload that was opened; the cursor moves behind it. A name has at least one byte: at the list's end
+   the number is 0 and the name has none. 19: a bad name. At both the cursor stays. Any other cursor is answered too. */
+CASTULFRISA_MUST_USE uint64_t castulfrisa_next_name(
+    const uint8_t *payload, uint64_t payload_len, castulfrisa_cursor *cursor, castulfrisa_part *name);
 
 /* The choice from a client's and a server's KEXINIT: the first of the client's methods that is one of the nine and in the server's
    list, and the first of its host key names that is in the server's.
    10 to 13, then 19 in any of the ten lists: the client's payload, then the server's; 20, 21. */
-castulfrisa_choice castulfrisa_choose(const uint8_t *client, size_t client_len, const uint8_t *server, size_t server_len);
+CASTULFRISA_MUST_USE uint64_t castulfrisa_choose(
+    const uint8_t *client, uint64_t client_len, const uint8_t *server, uint64_t server_len, castulfrisa_choice *choice);
 
 /* ---- an exchange, in the order of its life
    client: start, own_c, read_reply, take_secret, verdict.   server: start, read_init, take_secret, sign.
-   Every step is answered 1 while it is not due, then 3 for a room below CASTULFRISA_ROOM, then by its own causes. */
+   Every step is answered 1 for bytes that no exchange has and while it is not due, then 3 for a room below CASTULFRISA_ROOM, then by its
+   own causes. */
 
-/* Starts an exchange in role (enum castulfrisa_role) and method. V_C, V_S: the version lines without CR and LF. I_C, I_S: the two
-   KEXINIT payloads. All four go into the room; the rest of it stays. Count 0.
-   2: role or method; 3: room; 4: one of the four. A refusal leaves the room and hands back a record that failed with the number. */
-castulfrisa_answer castulfrisa_start(
-    uint8_t role, uint8_t method,
-    const uint8_t *vc, size_t vc_len,
-    const uint8_t *vs, size_t vs_len,
-    const uint8_t *ic, size_t ic_len,
-    const uint8_t *is, size_t is_len,
-    uint8_t *room, size_t room_len);
+/* Starts an exchange in role (enum castulfrisa_role) and method, in an exchange buffer that may hold anything. V_C, V_S: the version
+   lines without CR and LF. I_C, I_S: the two KEXINIT payloads. All four go into the room; the rest of it stays.
+   1: exchange_len; 2: role or method; 3: room; 4: one of the four. On 2 to 4 the room stays, and the exchange is one that failed with the
+   number: a live one that stood there is gone. */
+CASTULFRISA_MUST_USE uint64_t castulfrisa_start(
+    uint8_t *exchange, uint64_t exchange_len,
+    uint64_t role, uint64_t method,
+    const uint8_t *vc, uint64_t vc_len,
+    const uint8_t *vs, uint64_t vs_len,
+    const uint8_t *ic, uint64_t ic_len,
+    const uint8_t *is, uint64_t is_len,
+    uint8_t *room, uint64_t room_len);
 
 /* Client: own C, the public value for the wire. INIT is written into out, C goes into the room. Count: INIT's bytes.
    1; 3; 4: C's length, or a NIST point that does not begin with 4; 5: out below CASTULFRISA_INIT. */
-castulfrisa_answer castulfrisa_own_c(
-    castulfrisa_record record, uint8_t *room, size_t room_len, const uint8_t *c, size_t c_len, uint8_t *out, size_t out_len);
+CASTULFRISA_MUST_USE uint64_t castulfrisa_own_c(
+    uint8_t *exchange, uint64_t exchange_len, uint8_t *room, uint64_t room_len,
+    const uint8_t *c, uint64_t c_len, uint8_t *out, uint64_t out_len, uint64_t *count);
 
-/* Server: reads INIT. C goes into the room. Count 0. 1; 3; 10 to 15: the peer's fault. */
-castulfrisa_answer castulfrisa_read_init(
-    castulfrisa_record record, uint8_t *room, size_t room_len, const uint8_t *payload, size_t payload_len);
+/* Server: reads INIT. C goes into the room; its place in the payload is told. 1; 3; 10 to 15: the peer's fault. */
+CASTULFRISA_MUST_USE uint64_t castulfrisa_read_init(
+    uint8_t *exchange, uint64_t exchange_len, uint8_t *room, uint64_t room_len,
+    const uint8_t *payload, uint64_t payload_len, castulfrisa_part *c);
 
-/* Where C stands in an INIT: to be called ahead of castulfrisa_read_init, with the same record, room and payload. {0, 0} for all that
-   it would refuse. Changes nothing. */
-castulfrisa_part castulfrisa_init_c(
-    castulfrisa_record record, const uint8_t *room, size_t room_len, const uint8_t *payload, size_t payload_len);
-
-/* Client: reads REPLY. K_S goes into the room ahead of C, S behind it. Count 0. 1; 3; 10 to 15: the peer's fault. */
-castulfrisa_answer castulfrisa_read_reply(
-    castulfrisa_record record, uint8_t *room, size_t room_len, const uint8_t *payload, size_t payload_len);
-
-/* Where K_S, S and the signature stand in a REPLY: to be called ahead of castulfrisa_read_reply, as castulfrisa_init_c. */
-castulfrisa_part castulfrisa_reply_host_key(
-    castulfrisa_record record, const uint8_t *room, size_t room_len, const uint8_t *payload, size_t payload_len);
-castulfrisa_part castulfrisa_reply_s(
-    castulfrisa_record record, const uint8_t *room, size_t room_len, const uint8_t *payload, size_t payload_len);
-castulfrisa_part castulfrisa_reply_signature(
-    castulfrisa_record record, const uint8_t *room, size_t room_len, const uint8_t *payload, size_t payload_len);
+/* Client: reads REPLY. K_S goes into the room ahead of C, S behind it; their places and the signature's are told.
+   1; 3; 10 to 15: the peer's fault. */
+CASTULFRISA_MUST_USE uint64_t castulfrisa_read_reply(
+    uint8_t *exchange, uint64_t exchange_len, uint8_t *room, uint64_t room_len,
+    const uint8_t *payload, uint64_t payload_len, castulfrisa_reply *parts);
 
 /* Both roles: what the primitives gave.
-   given   false: the classical primitive failed, and x_count and x are not looked at. true: it gave x_count bytes, which are x, with
+   given   a no: the classical primitive failed, and x_count and x are not looked at. A yes: it gave x_count bytes, which are x, with
            no byte dropped or added: K's leading zeros are the library's business.
+   x_count how many bytes the primitive says that it gave, beside how many are lent: where they differ from each other or from the
+           method's X, it is 4, so that a primitive that wrote less than its buffer holds is noticed.
    kem     enum castulfrisa_kem: absent exactly in methods 1 to 6.
    digest  of the KEM's and the classical output, in methods 7 to 9; empty where a primitive failed, and in methods 1 to 6.
    ks, s   a server's host key blob and own public value; a client's are not looked at.
-   K goes into the record and the room; a server's K_S goes into the room ahead of C, its S behind it. Count: length of the hash
+   K goes into the exchange and the room; a server's K_S goes into the room ahead of C, its S behind it. Count: length of the hash
    input, which is the room's beginning: hash that many bytes of it now.
    1; 3; 4: one of the inputs, also any other number for kem; 16, 17: the primitives' failures, the peer's fault. */
-castulfrisa_answer castulfrisa_take_secret(
-    castulfrisa_record record, uint8_t *room, size_t room_len,
-    bool given, size_t x_count, const uint8_t *x, size_t x_len,
-    uint8_t kem,
-    const uint8_t *digest, size_t digest_len,
-    const uint8_t *ks, size_t ks_len,
-    const uint8_t *s, size_t s_len);
+CASTULFRISA_MUST_USE uint64_t castulfrisa_take_secret(
+    uint8_t *exchange, uint64_t exchange_len, uint8_t *room, uint64_t room_len,
+    uint64_t given, uint64_t x_count, const uint8_t *x, uint64_t x_len,
+    uint64_t kem,
+    const uint8_t *digest, uint64_t digest_len,
+    const uint8_t *ks, uint64_t ks_len,
+    const uint8_t *s, uint64_t s_len,
+    uint64_t *count);
 
 /* Server, last: the signature over the exchange hash, as a blob. REPLY is written into out, K's 71 bytes into k_out; the room is only
-   read. Count: REPLY's bytes; second: K's, its four length bytes included.
-   1; 3; 4: signature's length; 5: out below CASTULFRISA_REPLY or k_out below CASTULFRISA_K. */
-castulfrisa_answer castulfrisa_sign(
-    castulfrisa_record record, const uint8_t *room, size_t room_len, const uint8_t *signature, size_t signature_len,
-    uint8_t *out, size_t out_len, uint8_t *k_out, size_t k_out_len);
+   read. 1; 3; 4: signature's length; 5: out below CASTULFRISA_REPLY or k_out below CASTULFRISA_K. */
+CASTULFRISA_MUST_USE uint64_t castulfrisa_sign(
+    uint8_t *exchange, uint64_t exchange_len, const uint8_t *room, uint64_t room_len,
+    const uint8_t *signature, uint64_t signature_len,
+    uint8_t *out, uint64_t out_len, uint8_t *k_out, uint64_t k_out_len, castulfrisa_signed *counts);
 
-/* Client, last: whether the signature over the exchange hash verified, and whether the host key is accepted. K's 71 bytes are written
-   into k_out. Count: K's bytes, its four length bytes included.
-   1; 3; 5: k_out below CASTULFRISA_K; 18: one of the two is false, the peer's fault. */
-castulfrisa_answer castulfrisa_verdict(
-    castulfrisa_record record, uint8_t *room, size_t room_len, bool signature, bool host_key, uint8_t *k_out, size_t k_out_len);
+/* Client, last: whether the signature over the exchange hash verified, and whether the host key is accepted, 1 each. K's 71 bytes are
+   written into k_out. Count: K's bytes, its four length bytes included.
+   1; 3; 5: k_out below CASTULFRISA_K; 18: one of the two is not 1, the peer's fault. */
+CASTULFRISA_MUST_USE uint64_t castulfrisa_verdict(
+    uint8_t *exchange, uint64_t exchange_len, uint8_t *room, uint64_t room_len,
+    uint64_t signature, uint64_t host_key, uint8_t *k_out, uint64_t k_out_len, uint64_t *count);
+
+/* ---- calls on an exchange that are no steps: they tell, and change nothing */
+
+/* What castulfrisa_read_init would answer, and where C stands in the INIT; {0, 0} for all that it would refuse. */
+CASTULFRISA_MUST_USE uint64_t castulfrisa_init_c(
+    const uint8_t *exchange, uint64_t exchange_len, const uint8_t *room, uint64_t room_len,
+    const uint8_t *payload, uint64_t payload_len, castulfrisa_part *c);
+
+/* What castulfrisa_read_reply would answer, and where K_S, S or the signature stands in the REPLY, likewise. */
+CASTULFRISA_MUST_USE uint64_t castulfrisa_reply_host_key(
+    const uint8_t *exchange, uint64_t exchange_len, const uint8_t *room, uint64_t room_len,
+    const uint8_t *payload, uint64_t payload_len, castulfrisa_part *host_key);
+CASTULFRISA_MUST_USE uint64_t castulfrisa_reply_s(
+    const uint8_t *exchange, uint64_t exchange_len, const uint8_t *room, uint64_t room_len,
+    const uint8_t *payload, uint64_t payload_len, castulfrisa_part *s);
+CASTULFRISA_MUST_USE uint64_t castulfrisa_reply_signature(
+    const uint8_t *exchange, uint64_t exchange_len, const uint8_t *room, uint64_t room_len,
+    const uint8_t *payload, uint64_t payload_len, castulfrisa_part *signature);
+
+/* How far an exchange has come, what ended it, its role and its method. 1: the bytes do not begin as an exchange's, and all of it is 0. */
+CASTULFRISA_MUST_USE uint64_t castulfrisa_state(const uint8_t *exchange, uint64_t exchange_len, castulfrisa_told *told);
+
+/* ---- for the host */
+
+/* Fills a buffer with zeros. It stands in the archive, out of the host compiler's sight, which can drop no part of it. */
+void castulfrisa_wipe(uint8_t *buffer, uint64_t buffer_len);
+
+/* The archive's own CASTULFRISA_VERSION. */
+CASTULFRISA_MUST_USE uint64_t castulfrisa_version(void);
+
+/* ---- in the header, so that they cost nothing where they are not used */
+
+/* Overwrites the stack below the caller's frame, as far as any call of the library reaches: K and X stay there in copies that the
+   compiler made. Call it from the function that made the calls. */
+static CASTULFRISA_NOINLINE void castulfrisa_wipe_stack(void)
+{
+    volatile uint32_t below[CASTULFRISA_STACK / 4]; /* the first counts down through the others: a counter beside them leaves a gap */
+    for (below[0] = CASTULFRISA_STACK / 4 - 1; below[0] > 0; below[0]--) below[below[0]] = 0;
+}
+
+typedef struct { const uint8_t *at; uint64_t len; } castulfrisa_bytes;
+
+/* Lays ten lists one behind another into joined, and their ends into ends, for castulfrisa_write_kexinit. Returns how many bytes they
+   have in all; more than joined_len says that they did not fit, and joined is not to be used. */
+CASTULFRISA_MUST_USE static inline uint64_t castulfrisa_join(
+    const castulfrisa_bytes lists[CASTULFRISA_LISTS], uint8_t *joined, uint64_t joined_len, uint64_t ends[CASTULFRISA_LISTS])
+{
+    uint64_t total = 0, i;
+    uint32_t list;
+    for (list = 0; list < CASTULFRISA_LISTS; list++) {
+        for (i = 0; i < lists[list].len; i++, total++)
+            if (total < joined_len) joined[total] = lists[list].at[i];
+        ends[list] = total;
+    }
+    return total;
+}
+
+/* A sentence for a number. */
+CASTULFRISA_MUST_USE static inline const char *castulfrisa_text(uint64_t number)
+{
+    switch (number) {
+    case CASTULFRISA_OK: return "accepted";
+    case CASTULFRISA_NOT_DUE: return "the step is not due, or the bytes lent for the exchange are none";
+    case CASTULFRISA_NO_METHOD: return "there is no such method or role";
+    case CASTULFRISA_SHORT_ROOM: return "the room is too short";
+    case CASTULFRISA_BAD_INPUT: return "a field, outcome or digest handed in has a wrong length or form";
+    case CASTULFRISA_SHORT_OUTPUT: return "an output is too short";
+    case CASTULFRISA_PAYLOAD_SIZE: return "the peer's payload is empty or too long";
+    case CASTULFRISA_MESSAGE: return "the peer's payload is another message";
+    case CASTULFRISA_PAST_END: return "a field of the peer's payload passes its end";
+    case CASTULFRISA_LEFT_OVER: return "the peer's payload has bytes left over";
+    case CASTULFRISA_FIELD_LENGTH: return "a field of the peer's payload has a length that is not allowed";
+    case CASTULFRISA_LEAD_BYTE: return "the peer's point does not begin with 4";
+    case CASTULFRISA_CLASSICAL: return "the classical primitive failed, or gave all zeros";
+    case CASTULFRISA_KEM: return "the KEM failed";
+    case CASTULFRISA_VERDICT: return "the signature or the host key is not accepted";
+    case CASTULFRISA_BAD_NAME: return "a list has a bad name";
+    case CASTULFRISA_NO_COMMON_METHOD: return "the two sides have no method in common";
+    case CASTULFRISA_NO_COMMON_HOST_KEY: return "the two sides have no host key algorithm in common";
+    case CASTULFRISA_NOT_SHORTEST: return "an mpint could be shorter";
+    default: return "no number of this library";
+    }
+}
 
 #ifdef __cplusplus
 }

@@ -153,8 +153,16 @@ def exchanges():
     # P12: REPLY cut in its third length
     cut = h(bytes([31]) + string(b'k') + string(bytes(32)) + bytes(3))
     yield [room, 'start 1 1 61 62 14 14', f'ownc {"00" * 32} 00*1670', f'reply {cut}'], ['0', '0', '0 37', '12 0:- 0:- 0:-']
-    # a record that was written to
-    yield [room, 'start 2 1 61 62 14 14', 'set l2 18446744073709551615', 'init 1e'], ['0', '0', '0', '1 0:- | ex 2.1.started.']
+    # an exchange that was written to: a length that no exchange has, also one that its bytes cannot hold, is shown, refused by every step
+    # and kept; it is forgotten when it is set anew, at start and at blank
+    begin, init = 'start 2 1 61 62 14 14', f'init {h(bytes([30]) + string(bytes(32)))}'
+    whole, zeros = '0 | ex 2.1.started.0.1,1,1,1,0,0,0', '0 | ex 0.0.failed.0.0,0,0,0,0,0,0'
+    for n in (4097, 65535, 65536, 65537, 2**32 + 1, 2**64 - 1):
+        forged = f' | ex 2.1.started.0.1,1,{n},1,0,0,0'
+        yield [room, begin, f'set l2 {n}', 'init 1e', 'secret F - a - - -', 'set l2 1', init], [
+            '0', whole, '0' + forged, '1 0:-' + forged, '1 0' + forged, whole, '0 5:']
+        yield [room, begin, f'set l2 {n}', init, begin, init, f'set l6 {n}', 'blank'], [
+            '0', whole, '0' + forged, '1 0:-' + forged, whole, '0 5:', f'0 | ex 2.1.init.0.1,1,1,1,0,32,{n}', zeros]
     yield ['blank', 'set fail 9'], ['0 | ex 0.0.failed.0.', '0 | ex 0.0.failed.9.']
 
 

@@ -1,271 +1,444 @@
-/* The header against the library, in C and in C++: sizes and places of the structs as the library writes them, and that what is
-   written through the boundary is read back. */
-#include "castulfrisa.h"
+/* The header against the library, in C and in C++: every entry is called, and what the header says of it is tried. Here is what needs no
+   exchange; header_steps.c has the exchanges, header_32.c the sizes. */
+#define _DEFAULT_SOURCE
+#include "header_test.h"
 #include <stdio.h>
-#include <string.h>
+#include <sys/mman.h>
 
-static int bad = 0;
+static int failed;
+uint64_t method;
 
-static void is(int holds, const char *what)
+void is(int holds, const char *what)
 {
-    if (!holds) {
-        printf("not so: %s\n", what);
-        bad = 1;
-    }
+    static int lines;
+    if (holds) return;
+    failed = 1;
+    if (++lines > 20) return; /* one cause has many effects */
+    printf("not so: %s", what);
+    if (method != 0) printf(" (method %u)", (unsigned)method);
+    putchar('\n');
 }
 
-static const uint8_t *b(const char *s) { return (const uint8_t *)s; }
+/* ---- strings and mpints */
 
-/* ---- layout: what the library itself writes where it hands back a struct
-
-   A struct above 16 bytes is handed back through a hidden first argument. Calling the same entries with that argument written out
-   shows which bytes the library writes: those that are equal after two calls into memory that was filled differently. Its last one
-   gives the size; each field of the header must lie on written bytes, and its value must be the one that belongs there. */
-
-#define SPACE 256
-static uint8_t first[SPACE], second[SPACE];
-
-#ifdef __cplusplus
-extern "C" {
-#endif
-void *raw_read_string(void *, const uint8_t *, size_t) __asm__("castulfrisa_read_string");
-void *raw_read_mpint(void *, const uint8_t *, size_t) __asm__("castulfrisa_read_mpint");
-void *raw_method_sizes(void *, uint8_t) __asm__("castulfrisa_method_sizes");
-void *raw_open_list(void *, const uint8_t *, size_t, size_t) __asm__("castulfrisa_open_list");
-void *raw_next_name(void *, const uint8_t *, size_t, castulfrisa_cursor) __asm__("castulfrisa_next_name");
-void *raw_choose(void *, const uint8_t *, size_t, const uint8_t *, size_t) __asm__("castulfrisa_choose");
-void *raw_verdict(void *, castulfrisa_record, uint8_t *, size_t, bool, bool, uint8_t *, size_t) __asm__("castulfrisa_verdict");
-#ifdef __cplusplus
-}
-#endif
-
-static bool written(size_t i) { return first[i] == second[i]; }
-
-static void size_is(const char *type, size_t size)
+static void strings(void)
 {
-    size_t end = SPACE;
-    while (end > 0 && !written(end - 1)) end--;
-    end = (end + 7) / 8 * 8;
-    if (end != size) {
-        printf("not so: %s has %u bytes in the header and %u in the library\n", type, (unsigned)size, (unsigned)end);
-        bad = 1;
-    }
-}
-
-static void field_is(const char *field, size_t at, size_t len)
-{
+    static const struct { const char *bytes; uint64_t len; } cut[] = {
+        {NULL, 0}, {"\0\0\0", 3}, {"\0\0\0\3ab", 6}, {"\xff\xff\xff\xfd\0ab", 7}, {"\xff\xff\xff\xff", 4}};
+    uint8_t out[16];
     size_t i;
-    for (i = at; i < at + len; i++) {
-        if (!written(i)) {
-            printf("not so: the library writes no %s at byte %u\n", field, (unsigned)i);
-            bad = 1;
-            return;
+    LEND(castulfrisa_string, s);
+    LEND(uint64_t, count);
+
+    is(castulfrisa_read_string(b("\0\0\0\2abc"), 7, &s.told) == 0 && KEPT(s), "a string read");
+    is(part_is(s.told.body, 4, 2) && part_is(s.told.rest, 6, 1), "its parts");
+    for (i = 0; i < COUNT(cut); i++) {
+        AGAIN(s);
+        is(castulfrisa_read_string(b(cut[i].bytes), cut[i].len, &s.told) == CASTULFRISA_PAST_END && ZERO(s), "12, a string");
+    }
+
+    memset(out, FILL, sizeof out);
+    is(castulfrisa_write_string(out, sizeof out, b("ab"), 2, &count.told) == 0 && count.told == 6 && KEPT(count), "a string written");
+    is(memcmp(out, "\0\0\0\2ab", 6) == 0 && all(out + 6, FILL, sizeof out - 6), "its bytes, and none behind");
+    is(castulfrisa_write_string(out, 4, NULL, 0, &count.told) == 0 && count.told == 4 && all(out, 0, 4), "an empty one");
+    AGAIN(out);
+    AGAIN(count);
+    is(castulfrisa_write_string(out, 5, b("ab"), 2, &count.told) == CASTULFRISA_SHORT_OUTPUT && ZERO(count), "5, a string");
+    is(all(out, FILL, sizeof out), "5, a string: out as it was");
+    is(castulfrisa_write_string(NULL, 0, b("ab"), 2, &count.told) == CASTULFRISA_SHORT_OUTPUT, "5, no output");
+}
+
+static void mpints(void)
+{
+    uint8_t out[16];
+    LEND(castulfrisa_string, s);
+    LEND(int64_t, sign);
+    LEND(uint64_t, count);
+
+    is(castulfrisa_read_mpint(b("\0\0\0\2\xff\x7fz"), 7, &sign.told, &s.told) == 0 && sign.told == -1, "a negative mpint read");
+    is(part_is(s.told.body, 4, 2) && part_is(s.told.rest, 6, 1) && KEPT(s) && KEPT(sign), "its parts");
+    is(castulfrisa_read_mpint(b("\0\0\0\1\1"), 5, &sign.told, &s.told) == 0 && sign.told == 1, "a positive one");
+    is(castulfrisa_read_mpint(b("\0\0\0\0"), 4, &sign.told, &s.told) == 0 && sign.told == 0 && part_is(s.told.body, 4, 0), "zero");
+    AGAIN(s);
+    AGAIN(sign);
+    is(castulfrisa_read_mpint(b("\0\0\0\2\0\x7f"), 6, &sign.told, &s.told) == CASTULFRISA_NOT_SHORTEST, "22");
+    is(ZERO(s) && ZERO(sign), "22: told 0");
+    AGAIN(s);
+    AGAIN(sign);
+    is(castulfrisa_read_mpint(b("\0\0\0\2\xff"), 5, &sign.told, &s.told) == CASTULFRISA_PAST_END, "12, an mpint");
+    is(ZERO(s) && ZERO(sign), "12, an mpint: told 0");
+
+    memset(out, FILL, sizeof out);
+    is(castulfrisa_write_mpint(out, sizeof out, b("\xff\xff\x7f"), 3, &count.told) == 0 && KEPT(count), "an mpint written");
+    is(count.told == 6, "its count");
+    is(memcmp(out, "\0\0\0\2\xff\x7f", 6) == 0 && all(out + 6, FILL, sizeof out - 6), "its bytes, and none behind");
+    is(castulfrisa_write_mpint(out, 4, NULL, 0, &count.told) == 0 && count.told == 4 && all(out, 0, 4), "zero written");
+    AGAIN(out);
+    AGAIN(count);
+    is(castulfrisa_write_mpint(out, 5, b("\xff\xff\x7f"), 3, &count.told) == CASTULFRISA_SHORT_OUTPUT && ZERO(count), "5, an mpint");
+    is(all(out, FILL, sizeof out), "5, an mpint: out as it was");
+}
+
+/* A body of 2^32 bytes is 4, one of a byte less is 5. Of the addresses behind both only the first page is ever touched. */
+static void longest_bodies(void)
+{
+    uint8_t out[16];
+    uint64_t most = WIDE - 1;
+    void *map = mmap(NULL, most + 1, PROT_READ | PROT_WRITE, MAP_PRIVATE | MAP_ANONYMOUS | MAP_NORESERVE, -1, 0);
+    uint8_t *body = (uint8_t *)map;
+    LEND(uint64_t, count);
+    is(map != MAP_FAILED, "4 GB of addresses for the longest body");
+    if (map == MAP_FAILED) return;
+    body[0] = 1;
+    memset(out, FILL, sizeof out);
+    is(castulfrisa_write_string(out, sizeof out, body, most + 1, &count.told) == CASTULFRISA_BAD_INPUT && ZERO(count), "4, a string");
+    AGAIN(count);
+    is(castulfrisa_write_mpint(out, sizeof out, body, most + 1, &count.told) == CASTULFRISA_BAD_INPUT && ZERO(count), "4, an mpint");
+    is(castulfrisa_write_string(out, sizeof out, body, most, &count.told) == CASTULFRISA_SHORT_OUTPUT, "no 4, a string");
+    is(castulfrisa_write_mpint(out, sizeof out, body, most, &count.told) == CASTULFRISA_SHORT_OUTPUT, "no 4, an mpint");
+    is(all(out, FILL, sizeof out), "4: out as it was");
+    munmap(map, most + 1);
+}
+
+/* ---- methods */
+
+static const char *const names[] = {
+    "curve25519-sha256", "curve25519-sha256@libssh.org", "curve448-sha512", "ecdh-sha2-nistp256", "ecdh-sha2-nistp384",
+    "ecdh-sha2-nistp521", "mlkem768nistp256-sha256", "mlkem1024nistp384-sha384", "mlkem768x25519-sha256"};
+static const castulfrisa_sizes sizes[] = {
+    {32, 0, 32, 0, 32, 32, 0, 1}, {32, 0, 32, 0, 32, 32, 0, 1}, {56, 0, 56, 0, 56, 64, 0, 1},
+    {65, 0, 65, 0, 32, 32, 0, 0}, {97, 0, 97, 0, 48, 48, 0, 0}, {133, 0, 133, 0, 66, 64, 0, 0},
+    {1249, 1184, 1153, 1088, 32, 32, 1, 0}, {1665, 1568, 1665, 1568, 48, 48, 1, 0}, {1216, 1184, 1120, 1088, 32, 32, 1, 1}};
+
+static uint64_t larger(uint64_t a, uint64_t c) { return a > c ? a : c; }
+
+static void methods(void)
+{
+    static const uint64_t none[] = {0, 10, 255, 256, 256 + 1, 256 + 9, WIDE, WIDE + 1, UINT64_MAX};
+    uint8_t out[CASTULFRISA_NAME_MOST + 1];
+    uint64_t m, value = 0, x = 0, digest = 0, name = 0;
+    size_t i, len;
+    LEND(castulfrisa_sizes, z);
+    LEND(uint64_t, count);
+
+    for (m = 1; m <= 9; m++) {
+        method = m;
+        len = strlen(names[m - 1]);
+        memset(out, FILL, sizeof out);
+        AGAIN(count);
+        is(castulfrisa_method_name(m, out, len, &count.told) == 0 && count.told == len && KEPT(count), "a method's name");
+        is(memcmp(out, names[m - 1], len) == 0 && all(out + len, FILL, sizeof out - len), "its bytes, and none behind");
+        is(castulfrisa_method_number(out, count.told) == m, "a name's number");
+        is(castulfrisa_method_number(out, len - 1) == 0 && castulfrisa_method_number(out, len + 1) == 0, "a name cut, and a longer one");
+        AGAIN(out);
+        AGAIN(count);
+        is(castulfrisa_method_name(m, out, len - 1, &count.told) == CASTULFRISA_SHORT_OUTPUT && ZERO(count), "5, a name");
+        is(all(out, FILL, sizeof out), "5, a name: out as it was");
+
+        AGAIN(z);
+        is(castulfrisa_method_sizes(m, &z.told) == 0 && KEPT(z) && memcmp(&z.told, &sizes[m - 1], sizeof z.told) == 0, "sizes");
+        value = larger(value, larger(z.told.c_len, z.told.s_len));
+        x = larger(x, z.told.x_len);
+        digest = larger(digest, z.told.digest_len);
+        name = larger(name, len);
+    }
+    method = 0;
+    is(value == CASTULFRISA_VALUE_MOST && x == CASTULFRISA_X_MOST, "the largest C or S, and X");
+    is(digest == CASTULFRISA_DIGEST_MOST && name == CASTULFRISA_NAME_MOST, "the largest digest and name");
+
+    for (i = 0; i < COUNT(none); i++) {
+        AGAIN(out);
+        AGAIN(count);
+        AGAIN(z);
+        is(castulfrisa_method_name(none[i], out, sizeof out, &count.told) == CASTULFRISA_NO_METHOD && ZERO(count), "2, a name");
+        is(all(out, FILL, sizeof out), "2, a name: out as it was");
+        is(castulfrisa_method_sizes(none[i], &z.told) == CASTULFRISA_NO_METHOD && ZERO(z), "2, sizes");
+    }
+    is(castulfrisa_method_number(NULL, 0) == 0 && castulfrisa_method_number(b("none"), 4) == 0, "names of no method");
+}
+
+/* ---- KEXINIT */
+
+#define COOKIE "0123456789abcdef"
+#define RESERVED 0x01020304
+
+static const char *const texts[CASTULFRISA_LISTS] = {"none,curve448-sha512", "rsa,ed", "ci", "co", "mi", "mo", "", "zo", "li", "lo,en"};
+static const char *const plain[CASTULFRISA_LISTS] = {"curve448-sha512", "ed", "", "", "", "", "", "", "", ""};
+
+/* The lists that were joined last. */
+static uint8_t joined[CASTULFRISA_KEXINIT_MOST];
+static uint64_t joined_len, ends[CASTULFRISA_LISTS];
+
+static void join(const char *const lists[])
+{
+    castulfrisa_bytes parts[CASTULFRISA_LISTS];
+    size_t i;
+    for (i = 0; i < CASTULFRISA_LISTS; i++) {
+        parts[i].at = b(lists[i]);
+        parts[i].len = strlen(lists[i]);
+    }
+    joined_len = castulfrisa_join(parts, joined, sizeof joined, ends);
+}
+
+static uint64_t write_joined(uint8_t *out, uint64_t out_len, uint64_t follows, castulfrisa_proposed *told)
+{
+    return castulfrisa_write_kexinit(out, out_len, b(COOKIE), CASTULFRISA_COOKIE, joined, joined_len, ends, follows, RESERVED, told);
+}
+
+static uint64_t kexinit(uint8_t *out, const char *const lists[], uint64_t follows)
+{
+    castulfrisa_proposed told;
+    join(lists);
+    return write_joined(out, CASTULFRISA_KEXINIT_MOST, follows, &told) == 0 ? told.count : 0;
+}
+
+static void joins(void)
+{
+    const castulfrisa_bytes lists[CASTULFRISA_LISTS] = {
+        {b("ab"), 2}, {NULL, 0}, {b("c"), 1}, {NULL, 0}, {NULL, 0}, {NULL, 0}, {NULL, 0}, {NULL, 0}, {NULL, 0}, {b("def"), 3}};
+    uint8_t out[8];
+    uint64_t at[CASTULFRISA_LISTS];
+    memset(out, FILL, sizeof out);
+    is(castulfrisa_join(lists, out, 6, at) == 6 && memcmp(out, "abcdef", 6) == 0 && all(out + 6, FILL, 2), "lists joined");
+    is(at[0] == 2 && at[1] == 2 && at[2] == 3 && at[8] == 3 && at[9] == 6, "their ends");
+    AGAIN(out);
+    is(castulfrisa_join(lists, out, 5, at) == 6 && all(out + 5, FILL, 3), "lists that do not fit, and nothing behind");
+    is(castulfrisa_join(lists, NULL, 0, at) == 6, "lists that have no place at all");
+}
+
+/* What the joined lists are answered: 4, no count, this list named, out as it was. */
+static void named(uint64_t bad_list, const char *what)
+{
+    uint8_t out[CASTULFRISA_KEXINIT_MOST];
+    LEND(castulfrisa_proposed, w);
+    memset(out, FILL, sizeof out);
+    is(write_joined(out, sizeof out, 1, &w.told) == CASTULFRISA_BAD_INPUT && KEPT(w) && all(out, FILL, sizeof out), what);
+    is(w.told.count == 0 && w.told.bad_list == bad_list, what);
+}
+
+static void bad_lists(void)
+{
+    static const char *const bad[] = {",", "a,", "a b", "a,,b", "nnnnnnnnnnnnnnnnnnnnnnnnnnnnnnnnnnnnnnnnnnnnnnnnnnnnnnnnnnnnnnnnn"};
+    const char *lists[CASTULFRISA_LISTS];
+    uint64_t i;
+    size_t j;
+    for (i = 0; i < CASTULFRISA_LISTS; i++) {
+        for (j = 0; j < COUNT(bad); j++) {
+            memcpy(lists, texts, sizeof lists);
+            lists[i] = bad[j];
+            join(lists);
+            named(i + 1, "4, a bad list");
+            lists[CASTULFRISA_LISTS - 1] = ",";
+            join(lists);
+            named(i + 1, "4, the first of two bad lists");
+        }
+        join(texts);
+        ends[i] = joined_len + 1;
+        named(i + 1, "4, an end behind the lists");
+        ends[i] = UINT64_MAX;
+        named(i + 1, "4, the last end there is");
+        join(texts);
+        if (i > 0) {
+            ends[i] = ends[i - 1] - 1;
+            named(i + 1, "4, an end ahead of its beginning");
         }
     }
+    join(texts);
+    ends[CASTULFRISA_LISTS - 1]--;
+    named(0, "4, bytes behind the last list");
 }
 
-/* Makes the call twice, with the hidden argument in memory filled in two ways. */
-#define TWICE(call) do { \
-    void *to = first; memset(first, 0xa5, SPACE); call; \
-    to = second; memset(second, 0x5a, SPACE); call; } while (0)
-#define SIZE(type) size_is(#type, sizeof(type))
-#define FIELD(type, f) field_is(#type "." #f, offsetof(type, f), sizeof(((type *)0)->f))
-
-static void layout(void)
+static void kexinits(void)
 {
-    /* payload: a KEXINIT with the list "ab,cd" as its second, boolean 7, reserved number 0x01020304 */
-    static uint8_t payload[62 + 17 + 5], room[CASTULFRISA_ROOM], k[CASTULFRISA_K];
-    static castulfrisa_record record;
-    castulfrisa_string_read s;
-    castulfrisa_mpint_read m;
-    castulfrisa_sizes z;
-    castulfrisa_opened o;
-    castulfrisa_next n;
-    castulfrisa_choice c;
-    castulfrisa_answer a;
+    static const uint64_t no[] = {0, 2, 255, WIDE + 1, UINT64_MAX};
+    static uint8_t out[CASTULFRISA_KEXINIT_MOST];
+    static char longest[CASTULFRISA_KEXINIT_MOST - 62 - 17 + 2]; /* the longest list beside plain's two, a byte more, and its end */
+    const char *lists[CASTULFRISA_LISTS];
+    uint64_t n;
     size_t i;
+    LEND(castulfrisa_proposed, w);
 
-    TWICE(raw_read_string(to, b("\0\0\0\2abc"), 7));
-    SIZE(castulfrisa_string_read);
-    FIELD(castulfrisa_string_read, number);
-    FIELD(castulfrisa_string_read, body);
-    FIELD(castulfrisa_string_read, rest);
-    memcpy(&s, first, sizeof s);
-    is(s.number == 0 && s.body.start == 4 && s.body.len == 2 && s.rest.start == 6 && s.rest.len == 1, "castulfrisa_string_read");
+    join(texts);
+    is(write_joined(out, sizeof out, 1, &w.told) == 0 && w.told.count == 62 + joined_len && w.told.bad_list == 0 && KEPT(w), "KEXINIT");
+    is(out[w.told.count - 5] == 1 && memcmp(out + w.told.count - 4, "\1\2\3\4", 4) == 0, "its boolean and reserved number");
+    for (i = 0; i < COUNT(no); i++)
+        is(write_joined(out, sizeof out, no[i], &w.told) == 0 && out[w.told.count - 5] == 0, "a no for every number but 1");
 
-    TWICE(raw_read_mpint(to, b("\0\0\0\2\xff\x7f\0"), 7));
-    SIZE(castulfrisa_mpint_read);
-    FIELD(castulfrisa_mpint_read, number);
-    FIELD(castulfrisa_mpint_read, sign);
-    FIELD(castulfrisa_mpint_read, body);
-    FIELD(castulfrisa_mpint_read, rest);
-    memcpy(&m, first, sizeof m);
-    is(m.number == 0 && m.sign == -1 && m.body.start == 4 && m.body.len == 2 && m.rest.start == 6 && m.rest.len == 1, "castulfrisa_mpint_read");
+    AGAIN(out);
+    AGAIN(w);
+    is(write_joined(out, 62 + joined_len - 1, 1, &w.told) == CASTULFRISA_SHORT_OUTPUT && ZERO(w), "5, KEXINIT");
+    for (n = CASTULFRISA_COOKIE - 1; n <= CASTULFRISA_COOKIE + 1; n += 2) {
+        AGAIN(w);
+        is(castulfrisa_write_kexinit(out, sizeof out, b(COOKIE "x"), n, joined, joined_len, ends, 0, 0, &w.told) == CASTULFRISA_BAD_INPUT
+           && ZERO(w), "4, the cookie");
+    }
+    AGAIN(w);
+    is(castulfrisa_write_kexinit(out, sizeof out, b(COOKIE), CASTULFRISA_COOKIE, joined, joined_len, ends, 0, WIDE, &w.told)
+       == CASTULFRISA_BAD_INPUT && ZERO(w), "4, a reserved number above 32 bits");
+    is(all(out, FILL, sizeof out), "4 and 5: out as it was");
 
-    TWICE(raw_method_sizes(to, 7));
-    SIZE(castulfrisa_sizes);
-    FIELD(castulfrisa_sizes, c_len);
-    FIELD(castulfrisa_sizes, c_classical);
-    FIELD(castulfrisa_sizes, s_len);
-    FIELD(castulfrisa_sizes, s_classical);
-    FIELD(castulfrisa_sizes, x_len);
-    FIELD(castulfrisa_sizes, digest_len);
-    FIELD(castulfrisa_sizes, hybrid);
-    FIELD(castulfrisa_sizes, zero_check);
-    memcpy(&z, first, sizeof z);
-    is(z.c_len == 1249 && z.c_classical == 1184 && z.s_len == 1153 && z.s_classical == 1088, "castulfrisa_sizes of C and S");
-    is(z.x_len == 32 && z.digest_len == 32 && z.hybrid && !z.zero_check, "castulfrisa_sizes");
+    /* a total of 4,097 and of 4,096 */
+    memcpy(lists, plain, sizeof lists);
+    lists[2] = longest;
+    for (i = 0; i < sizeof longest - 1; i++) longest[i] = i % 8 == 0 && i < sizeof longest - 4 && i > 0 ? ',' : 'a';
+    join(lists);
+    named(0, "4, a total of 4,097");
+    longest[sizeof longest - 2] = 0;
+    join(lists);
+    is(write_joined(out, sizeof out, 1, &w.told) == 0 && w.told.count == CASTULFRISA_KEXINIT_MOST, "a total of 4,096");
+}
 
-    payload[0] = 20;
-    payload[20] = 17;
-    memcpy(payload + 21, "curve25519-sha256", 17);
-    payload[41] = 5;
-    memcpy(payload + 42, "ab,cd", 5);
-    payload[sizeof payload - 5] = 7;
-    memcpy(payload + sizeof payload - 4, "\1\2\3\4", 4);
-    TWICE(raw_open_list(to, payload, sizeof payload, 2));
-    SIZE(castulfrisa_opened);
-    FIELD(castulfrisa_opened, number);
-    FIELD(castulfrisa_opened, cookie);
-    FIELD(castulfrisa_opened, follows);
-    FIELD(castulfrisa_opened, reserved);
-    FIELD(castulfrisa_opened, cursor);
-    memcpy(&o, first, sizeof o);
-    is(o.number == 0 && o.cookie.start == 1 && o.cookie.len == 16 && o.follows && o.reserved == 0x01020304, "castulfrisa_opened");
-    is(o.cursor.at == 42 && o.cursor.end == 47, "castulfrisa_opened.cursor");
+/* ---- a KEXINIT's lists */
 
-    TWICE(raw_next_name(to, payload, sizeof payload, o.cursor));
-    SIZE(castulfrisa_next);
-    FIELD(castulfrisa_next, number);
-    FIELD(castulfrisa_next, found);
-    FIELD(castulfrisa_next, name);
-    FIELD(castulfrisa_next, cursor);
-    memcpy(&n, first, sizeof n);
-    is(n.number == 0 && n.found && n.name.start == 42 && n.name.len == 2 && n.cursor.at == 45 && n.cursor.end == 47, "castulfrisa_next");
+static int stays(castulfrisa_cursor a, castulfrisa_cursor c) { return a.at == c.at && a.end == c.end; }
 
-    TWICE(raw_choose(to, payload, sizeof payload, payload, sizeof payload));
-    SIZE(castulfrisa_choice);
-    FIELD(castulfrisa_choice, number);
-    FIELD(castulfrisa_choice, method);
-    FIELD(castulfrisa_choice, host_key);
-    FIELD(castulfrisa_choice, ignore_client);
-    FIELD(castulfrisa_choice, ignore_server);
-    memcpy(&c, first, sizeof c);
-    is(c.number == 0 && c.method == 1 && c.host_key.start == 42 && c.host_key.len == 2 && !c.ignore_client && !c.ignore_server, "castulfrisa_choice");
+/* Every list, name by name. */
+static void all_names(const uint8_t *payload, uint64_t len)
+{
+    uint64_t list;
+    LEND(castulfrisa_opened, o);
+    LEND(castulfrisa_part, name);
+    for (list = 1; list <= CASTULFRISA_LISTS; list++) {
+        const char *text = texts[list - 1];
+        castulfrisa_cursor stood;
+        AGAIN(o);
+        is(castulfrisa_open_list(payload, len, list, &o.told) == 0 && KEPT(o), "a list opened");
+        is(part_is(o.told.cookie, 1, 16) && o.told.follows == 1 && o.told.reserved == RESERVED, "what stands beside it");
+        while (*text != 0) {
+            size_t due = strcspn(text, ",");
+            AGAIN(name);
+            is(castulfrisa_next_name(payload, len, &o.told.cursor, &name.told) == 0 && KEPT(name) && KEPT(o), "a name");
+            is(name.told.len == due && memcmp(payload + name.told.start, text, due) == 0, "its bytes");
+            text += text[due] == ',' ? due + 1 : due;
+        }
+        stood = o.told.cursor;
+        AGAIN(name);
+        is(castulfrisa_next_name(payload, len, &o.told.cursor, &name.told) == 0 && ZERO(name), "the end");
+        is(stays(o.told.cursor, stood), "the end: the cursor stays");
+    }
+}
 
-    /* a client's record ahead of its verdict, a number of its own in each field; K is of 5 bytes */
-    record.stage = CASTULFRISA_SECRET_DONE;
-    record.role = CASTULFRISA_CLIENT;
-    record.method = 9;
-    record.lens.vc = 11;
-    record.lens.vs = 12;
-    record.lens.ic = 13;
-    record.lens.is = 14;
-    record.lens.ks = 15;
-    record.lens.c = 1216;
-    record.lens.s = 1120;
-    for (i = 0; i < sizeof record.k; i++) record.k[i] = (uint8_t)(100 + i);
-    memcpy(record.k, "\0\0\0\40", 4);
-    TWICE(raw_verdict(to, record, room, sizeof room, true, true, k, sizeof k));
-    SIZE(castulfrisa_answer);
-    FIELD(castulfrisa_answer, number);
-    FIELD(castulfrisa_answer, count);
-    FIELD(castulfrisa_answer, second);
-    FIELD(castulfrisa_answer, record.stage);
-    FIELD(castulfrisa_answer, record.fail);
-    FIELD(castulfrisa_answer, record.role);
-    FIELD(castulfrisa_answer, record.method);
-    FIELD(castulfrisa_answer, record.lens);
-    FIELD(castulfrisa_answer, record.k);
-    memcpy(&a, first, sizeof a);
-    is(a.number == 0 && a.count == 36 && a.second == 0, "castulfrisa_answer");
-    is(a.record.stage == CASTULFRISA_COMPLETE && a.record.fail == 0 && a.record.role == 1 && a.record.method == 9, "castulfrisa_record");
-    is(memcmp(&a.record.lens, &record.lens, sizeof record.lens) == 0, "castulfrisa_record.lens");
-    is(memcmp(a.record.k, record.k, sizeof record.k) == 0 && memcmp(k, record.k, sizeof k) == 0, "castulfrisa_record.k");
-    /* a failed one has its number where the header says */
-    TWICE(raw_verdict(to, record, room, sizeof room, true, false, k, sizeof k));
-    memcpy(&a, first, sizeof a);
-    is(a.number == CASTULFRISA_VERDICT && a.count == 0, "a failed castulfrisa_answer");
-    is(a.record.stage == CASTULFRISA_FAILED && a.record.fail == 18, "castulfrisa_record.fail");
+static void opened_lists(void)
+{
+    static const uint64_t no_list[] = {0, 11, 255, 256 + 1, WIDE + 1, UINT64_MAX};
+    static const castulfrisa_cursor strange[] = {
+        {0, 0}, {0, UINT64_MAX}, {UINT64_MAX, UINT64_MAX}, {UINT64_MAX, 0}, {40, 3}, {5000, 6000}, {WIDE + 21, WIDE + 25}};
+    static uint8_t payload[CASTULFRISA_KEXINIT_MOST + 1];
+    uint64_t len = kexinit(payload, texts, 1), n;
+    const struct { uint64_t len, list, number; uint8_t message; } refused[] = {
+        {0, 1, CASTULFRISA_PAYLOAD_SIZE, 20}, {sizeof payload, 1, CASTULFRISA_PAYLOAD_SIZE, 20}, {len, 1, CASTULFRISA_MESSAGE, 21},
+        {len - 1, 1, CASTULFRISA_PAST_END, 20}, {len + 1, 1, CASTULFRISA_LEFT_OVER, 20}, {0, 0, CASTULFRISA_BAD_INPUT, 20}};
+    castulfrisa_cursor stood;
+    size_t i;
+    LEND(castulfrisa_opened, o);
+    LEND(castulfrisa_part, name);
+
+    payload[len - 5] = 7; /* every boolean byte but 0 is a yes */
+    all_names(payload, len);
+
+    /* refusals: all of it is 0, but a cursor that yields the end */
+    for (i = 0; i < COUNT(refused) + COUNT(no_list); i++) {
+        AGAIN(o);
+        if (i < COUNT(refused)) {
+            payload[0] = refused[i].message;
+            is(castulfrisa_open_list(payload, refused[i].len, refused[i].list, &o.told) == refused[i].number, "4, 10 to 13");
+        } else
+            is(castulfrisa_open_list(payload, len, no_list[i - COUNT(refused)], &o.told) == CASTULFRISA_BAD_INPUT, "4, no list");
+        is(all(&o.told, 0, offsetof(castulfrisa_opened, cursor)) && KEPT(o), "4, 10 to 13: told 0");
+        payload[0] = 20;
+        stood = o.told.cursor;
+        AGAIN(name);
+        is(castulfrisa_next_name(payload, len, &o.told.cursor, &name.told) == 0 && ZERO(name), "a refusal's cursor yields the end");
+        is(stays(o.told.cursor, stood), "and stays");
+    }
+
+    /* a bad name: the one ahead of it is yielded, then 19, again and again */
+    is(castulfrisa_open_list(payload, len, CASTULFRISA_LIST_HOST_KEY, &o.told) == 0, "the list of host keys");
+    payload[o.told.cursor.at + 5] = ' ';
+    is(castulfrisa_next_name(payload, len, &o.told.cursor, &name.told) == 0 && name.told.len == 3, "the name ahead of a bad one");
+    stood = o.told.cursor;
+    for (i = 0; i < 2; i++) {
+        AGAIN(name);
+        is(castulfrisa_next_name(payload, len, &o.told.cursor, &name.told) == CASTULFRISA_BAD_NAME && ZERO(name), "19");
+        is(stays(o.told.cursor, stood), "19: the cursor stays");
+    }
+
+    for (i = 0; i < COUNT(strange); i++) {
+        castulfrisa_cursor cursor = strange[i];
+        n = castulfrisa_next_name(payload, len, &cursor, &name.told);
+        is(n == 0 || n == CASTULFRISA_BAD_NAME, "any cursor is answered");
+        is(name.told.start <= len && name.told.len <= len - name.told.start, "with a part of the payload");
+    }
+}
+
+static void choices(void)
+{
+    static const char *const other_method[CASTULFRISA_LISTS] = {"other", "ed", "", "", "", "", "", "", "", ""};
+    static const char *const other_key[CASTULFRISA_LISTS] = {"curve448-sha512", "dss", "", "", "", "", "", "", "", ""};
+    /* a payload of these lists, its length and one of its bytes changed: the number that it is answered on either side */
+    static const struct { const char *const *lists; int longer; size_t at; uint8_t byte; uint64_t number; } refused[] = {
+        {plain, -1000, 0, 20, CASTULFRISA_PAYLOAD_SIZE}, {plain, 0, 0, 21, CASTULFRISA_MESSAGE}, {plain, -1, 0, 20, CASTULFRISA_PAST_END},
+        {plain, 1, 0, 20, CASTULFRISA_LEFT_OVER}, {plain, 0, 21, ' ', CASTULFRISA_BAD_NAME},
+        {other_method, 0, 0, 20, CASTULFRISA_NO_COMMON_METHOD}, {other_key, 0, 0, 20, CASTULFRISA_NO_COMMON_HOST_KEY}};
+    static uint8_t client[CASTULFRISA_KEXINIT_MOST], server[CASTULFRISA_KEXINIT_MOST], other[CASTULFRISA_KEXINIT_MOST];
+    uint64_t client_len = kexinit(client, texts, 1), server_len = kexinit(server, plain, 0), len;
+    size_t i;
+    LEND(castulfrisa_choice, c);
+
+    is(castulfrisa_choose(client, client_len, server, server_len, &c.told) == 0 && KEPT(c), "choice");
+    is(c.told.method == CASTULFRISA_CURVE448_SHA512, "the method");
+    is(c.told.host_key.len == 2 && memcmp(client + c.told.host_key.start, "ed", 2) == 0, "the host key name");
+    is(c.told.ignore_client == 1 && c.told.ignore_server == 0, "the client guessed wrong");
+    server_len = kexinit(server, plain, 1);
+    is(castulfrisa_choose(client, client_len, server, server_len, &c.told) == 0, "both guess");
+    is(c.told.ignore_client == 1 && c.told.ignore_server == 1, "both guessed wrong");
+    is(castulfrisa_choose(server, server_len, server, server_len, &c.told) == 0, "both guess, and the same");
+    is(c.told.ignore_client == 0 && c.told.ignore_server == 0, "nobody guessed wrong");
+    for (i = 0; i < COUNT(refused); i++) {
+        len = kexinit(other, refused[i].lists, 0);
+        len = refused[i].longer == -1000 ? 0 : len + (uint64_t)refused[i].longer;
+        other[refused[i].at] = refused[i].byte;
+        AGAIN(c);
+        is(castulfrisa_choose(other, len, server, server_len, &c.told) == refused[i].number && ZERO(c), "a client's payload refused");
+        AGAIN(c);
+        is(castulfrisa_choose(client, client_len, other, len, &c.told) == refused[i].number && ZERO(c), "a server's payload refused");
+    }
+}
+
+/* ---- sentences */
+
+static void sentences(void)
+{
+    static const uint64_t numbers[] = {0, 1, 2, 3, 4, 5, 10, 11, 12, 13, 14, 15, 16, 17, 18, 19, 20, 21, 22};
+    const char *other = castulfrisa_text(6);
+    size_t i, j;
+    uint64_t n;
+    for (i = 0; i < COUNT(numbers); i++) {
+        const char *text = castulfrisa_text(numbers[i]);
+        is(strlen(text) > 0 && strcmp(text, other) != 0, "a sentence");
+        for (j = 0; j < i; j++) is(strcmp(text, castulfrisa_text(numbers[j])) != 0, "a sentence of its own");
+    }
+    for (n = 0; n < 300; n++) {
+        for (i = 0; i < COUNT(numbers) && numbers[i] != n; i++) {}
+        is(i < COUNT(numbers) || strcmp(castulfrisa_text(n), other) == 0, "the sentence of numbers that are none");
+    }
+    is(strlen(other) > 0 && strcmp(castulfrisa_text(WIDE), other) == 0, "the sentence of a wide number");
 }
 
 int main(void)
 {
-    static uint8_t out[4096], other[4096], room[CASTULFRISA_ROOM], was[CASTULFRISA_ROOM];
-    layout();
-    castulfrisa_written w = castulfrisa_write_string(out, sizeof out, b("ab"), 2);
-    is(w.number == 0 && w.count == 6 && memcmp(out, "\0\0\0\2ab", 6) == 0, "string written");
-    castulfrisa_string_read r = castulfrisa_read_string(out, 9);
-    is(r.number == 0 && r.body.start == 4 && r.body.len == 2 && r.rest.start == 6 && r.rest.len == 3, "string read");
-    is(castulfrisa_read_string(NULL, 0).number == CASTULFRISA_PAST_END, "12 for no bytes");
-
-    w = castulfrisa_write_mpint(out, sizeof out, b("\xff\xff\x7f"), 3);
-    is(w.number == 0 && w.count == 6 && memcmp(out, "\0\0\0\2\xff\x7f", 6) == 0, "mpint written");
-    castulfrisa_mpint_read m = castulfrisa_read_mpint(out, 6);
-    is(m.number == 0 && m.sign == -1 && m.body.start == 4 && m.body.len == 2 && m.rest.start == 6 && m.rest.len == 0, "mpint read");
-    is(castulfrisa_read_mpint(b("\0\0\0\2\0\x7f"), 6).number == CASTULFRISA_NOT_SHORTEST, "22");
-
-    is(castulfrisa_method_number(b("curve448-sha512"), 15) == 3 && castulfrisa_method_number(b("none"), 4) == 0, "method number");
-    castulfrisa_sizes z = castulfrisa_method_sizes(9);
-    is(z.c_len == 1216 && z.c_classical == 1184 && z.s_len == 1120 && z.s_classical == 1088, "sizes of C and S");
-    is(z.x_len == 32 && z.digest_len == 32 && z.hybrid && z.zero_check && castulfrisa_method_sizes(10).c_len == 0, "sizes");
-
-    w = castulfrisa_write_kexinit(
-        out, sizeof out, b("0123456789abcdef"), 16, b("none,curve448-sha512"), 20, b("rsa,ed"), 6, b("ci"), 2, b("co"), 2,
-        b("mi"), 2, b("mo"), 2, b("zi"), 2, b("zo"), 2, b("li"), 2, b("lo"), 2, true, 0x01020304);
-    is(w.number == 0 && w.count == 62 + 20 + 6 + 16, "KEXINIT written");
-    castulfrisa_opened o = castulfrisa_open_list(out, w.count, 1);
-    is(o.number == 0 && o.cookie.start == 1 && o.cookie.len == 16 && o.follows && o.reserved == 0x01020304, "KEXINIT opened");
-    castulfrisa_next n = castulfrisa_next_name(out, w.count, o.cursor);
-    is(n.number == 0 && n.found && n.name.len == 4 && memcmp(out + n.name.start, "none", 4) == 0, "first name");
-    n = castulfrisa_next_name(out, w.count, n.cursor);
-    is(n.found && n.name.len == 15, "second name");
-    n = castulfrisa_next_name(out, w.count, n.cursor);
-    is(n.number == 0 && !n.found, "the end");
-    is(castulfrisa_open_list(out, w.count, 11).number == CASTULFRISA_BAD_INPUT, "4 for list 11");
-    o = castulfrisa_open_list(out, w.count, 10);
-    n = castulfrisa_next_name(out, w.count, o.cursor);
-    is(n.found && memcmp(out + n.name.start, "lo", 2) == 0, "list 10");
-
-    castulfrisa_written v = castulfrisa_write_kexinit(
-        other, sizeof other, b("0123456789abcdef"), 16, b("curve448-sha512"), 15, b("ed"), 2, NULL, 0, NULL, 0, NULL, 0, NULL, 0,
-        NULL, 0, NULL, 0, NULL, 0, NULL, 0, false, 0);
-    castulfrisa_choice c = castulfrisa_choose(out, w.count, other, v.count);
-    is(c.number == 0 && c.method == 3 && c.ignore_client && !c.ignore_server, "choice");
-    is(c.host_key.len == 2 && memcmp(out + c.host_key.start, "ed", 2) == 0, "host key name");
-
-    /* a record that no exchange has */
-    castulfrisa_answer a = castulfrisa_start(CASTULFRISA_SERVER, 3, b("v"), 1, b("w"), 1, out, w.count, other, v.count, room, sizeof room);
-    is(a.number == 0 && a.record.stage == CASTULFRISA_STARTED && a.record.role == 2 && a.record.method == 3, "start");
-    is(a.record.lens.vc == 1 && a.record.lens.ic == w.count && a.record.lens.is == v.count && a.record.lens.s == 0, "lengths");
-    is(memcmp(room, "\0\0\0\1v\0\0\0\1w", 10) == 0, "room");
-    memcpy(was, room, sizeof room);
-    a.record.stage = 7;
-    memset(a.record.k, 0x5a, sizeof a.record.k);
-    castulfrisa_answer q = castulfrisa_read_init(a.record, room, sizeof room, out, w.count);
-    is(q.number == CASTULFRISA_NOT_DUE && q.count == 0 && q.second == 0, "1 for stage 7");
-    is(q.record.stage == 7 && q.record.fail == 0 && q.record.lens.ic == w.count && q.record.k[0] == 0x5a && q.record.k[70] == 0x5a, "the record as it was");
-    is(memcmp(room, was, sizeof room) == 0, "the room as it was");
-    is(castulfrisa_start(3, 3, b("v"), 1, b("w"), 1, out, w.count, other, v.count, room, sizeof room).record.fail == 2, "a refused start");
-    /* a peer fault */
-    a.record.stage = CASTULFRISA_STARTED;
-    q = castulfrisa_read_init(a.record, room, sizeof room, out, w.count);
-    is(q.number == CASTULFRISA_MESSAGE && q.record.stage == CASTULFRISA_FAILED && q.record.fail == 11 && q.record.lens.ic == 0, "11");
-    memset(was, 0, sizeof was);
-    is(memcmp(room, was, sizeof room) == 0 && q.record.k[0] == 0, "all zeros");
-
-    /* a KEM outcome of any other number */
-    a = castulfrisa_start(CASTULFRISA_SERVER, 3, b("v"), 1, b("w"), 1, out, w.count, other, v.count, room, sizeof room);
-    memset(was, 0x33, 56);
-    out[0] = 30;
-    castulfrisa_write_string(out + 1, sizeof out - 1, was, 56);
-    a = castulfrisa_read_init(a.record, room, sizeof room, out, 61);
-    is(a.number == 0 && a.record.stage == CASTULFRISA_INIT_READ && a.record.lens.c == 56, "INIT read");
-    q = castulfrisa_take_secret(a.record, room, sizeof room, true, 56, was, 56, 3, NULL, 0, was, 9, was, 56);
-    is(q.number == CASTULFRISA_BAD_INPUT && q.record.stage == CASTULFRISA_INIT_READ, "4 for KEM 3");
-    q = castulfrisa_take_secret(q.record, room, sizeof room, true, 56, was, 56, CASTULFRISA_KEM_ABSENT, NULL, 0, was, 9, was, 56);
-    is(q.number == 0 && q.record.stage == CASTULFRISA_SECRET_DONE && q.record.k[3] == 56 && q.record.k[59] == 0x33, "secret");
-
-    puts(bad ? "failed" : "ok");
-    return bad;
+    is(castulfrisa_version() == CASTULFRISA_VERSION, "header and archive are of one day");
+    strings();
+    mpints();
+    longest_bodies();
+    methods();
+    joins();
+    kexinits();
+    bad_lists();
+    opened_lists();
+    choices();
+    sentences();
+    exchanges();
+    puts(failed ? "failed" : "ok");
+    return failed;
 }

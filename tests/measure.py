@@ -43,10 +43,11 @@ def main():
             deepest = int(re.search(r'^deepest (\d+)', said, re.M)[1])
             entry = max(re.findall(r'^stack (\S+) (\d+)', said, re.M), key=lambda e: int(e[1]))[0]
             print(f'| {name} | {text:,} | {rodata:,} | {deepest:,} | {entry} |')
-    record, answer = map(int, re.search(r'record (\d+) answer (\d+)', said).groups())
+    room, exchange, k, init, reply = map(int, re.search(r'^sizes (\d+) (\d+) (\d+) (\d+) (\d+)$', said, re.M).groups())
+    both = room + exchange + k
     print()
-    print(f'RAM of a session: room 14,156; record {record}; K output 71; output for INIT 1,670 (client) or REPLY 5,774 (server); '
-          f'in all {14156 + record + 71 + 1670:,} for a client and {14156 + record + 71 + 5774:,} for a server, beside payloads and stack.')
+    print(f'RAM of a session: room {room:,}; exchange {exchange}; K output {k}; output for INIT {init:,} (client) or REPLY {reply:,} (server); '
+          f'in all {both + init:,} for a client and {both + reply:,} for a server, beside payloads and stack.')
     print()
     sys.stdout.flush()
     subprocess.run([timing], check=True)

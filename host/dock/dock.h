@@ -31,9 +31,6 @@ enum message {
 /* One line on standard error, whatever bytes the text holds. Always false, so that a caller can return it. */
 bool trouble(const char *format, ...);
 
-/* The cause that document 01 and the header give a number. */
-const char *cause(uint8_t number);
-
 /* With on, a line of --show: direction ("->", "<-" or ""), what, and each of length, number and room unless it is -1. */
 void show(bool on, const char *direction, const char *what, long length, int number, long room);
 
@@ -79,20 +76,20 @@ void link_close(struct link *l);
 
 /* ---- primitives.c: ephemeral keys, X and digests of methods 1 to 6 */
 
-const char *method_name(uint8_t method); /* NULL for a method that is not made here */
+bool makes_method(uint64_t method);
 
-/* A new key pair; its public value as it goes on the wire. */
-bool draw_ephemeral(uint8_t method, EVP_PKEY **own, uint8_t c[CASTULFRISA_VALUE_MOST]);
+/* A new key pair; its public value as it goes on the wire, whose length the core judges. */
+bool draw_ephemeral(uint64_t method, EVP_PKEY **own, uint8_t c[CASTULFRISA_VALUE_MOST], size_t *c_len);
 
 /* The peer's public value; NULL for one that is no point of the curve. */
 EVP_PKEY *peer_public(EVP_PKEY *own, span value);
 
-/* X at its full length; false where the primitive fails. */
-bool derive_x(uint8_t method, EVP_PKEY *own, EVP_PKEY *peer, uint8_t x[CASTULFRISA_X_MOST]);
+/* X, and how many bytes of it the primitive gave, which the core judges; false where it fails. */
+bool derive_x(EVP_PKEY *own, EVP_PKEY *peer, uint8_t x[CASTULFRISA_X_MOST], size_t *x_count);
 
-bool exchange_hash(uint8_t method, const uint8_t *input, size_t len, uint8_t h[CASTULFRISA_DIGEST_MOST]);
+bool exchange_hash(uint64_t method, const uint8_t *input, size_t len, uint8_t h[CASTULFRISA_DIGEST_MOST], size_t *h_len);
 
-/* Clears the stack below the caller: records cross the boundary by value, and an exchange's calls leave copies of K there. */
+/* Clears the stack below the caller as deep as libcrypto may have gone with X and K, which castulfrisa_wipe_stack does not know. */
 void wipe_stack(void);
 
 /* ---- hostkey.c: host keys and their signatures over H */
@@ -121,6 +118,8 @@ struct host_key {
 const struct scheme *scheme_named(const uint8_t *name, size_t len);
 
 bool span_is(span s, const char *text);
+
+span part_of(span whole, castulfrisa_part p);
 
 /* Parts of a blob, taken from its front. */
 bool take_string(span *rest, span *body);

@@ -33,21 +33,24 @@ const struct scheme *scheme_named(const uint8_t *name, size_t len)
 
 /* ---- parts of blobs */
 
+span part_of(span whole, castulfrisa_part p) { return (span){whole.at + p.start, (size_t)p.len}; }
+
 bool take_string(span *rest, span *body)
 {
-    castulfrisa_string_read r = castulfrisa_read_string(rest->at, rest->len);
-    if (r.number != CASTULFRISA_OK) return false;
-    *body = (span){rest->at + r.body.start, r.body.len};
-    *rest = (span){rest->at + r.rest.start, r.rest.len};
+    castulfrisa_string parts;
+    if (castulfrisa_read_string(rest->at, rest->len, &parts) != CASTULFRISA_OK) return false;
+    *body = part_of(*rest, parts.body);
+    *rest = part_of(*rest, parts.rest);
     return true;
 }
 
 bool take_positive(span *rest, span *body)
 {
-    castulfrisa_mpint_read r = castulfrisa_read_mpint(rest->at, rest->len);
-    if (r.number != CASTULFRISA_OK || r.sign != 1) return false;
-    *body = (span){rest->at + r.body.start, r.body.len};
-    *rest = (span){rest->at + r.rest.start, r.rest.len};
+    castulfrisa_string parts;
+    int64_t sign;
+    if (castulfrisa_read_mpint(rest->at, rest->len, &sign, &parts) != CASTULFRISA_OK || sign != 1) return false;
+    *body = part_of(*rest, parts.body);
+    *rest = part_of(*rest, parts.rest);
     return true;
 }
 
@@ -55,9 +58,9 @@ struct blob { uint8_t *at; size_t room, len; bool short_of_room; };
 
 static void put_string(struct blob *b, const void *bytes, size_t len)
 {
-    castulfrisa_written w = castulfrisa_write_string(b->at + b->len, b->room - b->len, bytes, len);
-    b->len += w.count;
-    b->short_of_room |= w.number != CASTULFRISA_OK;
+    uint64_t count;
+    b->short_of_room |= castulfrisa_write_string(b->at + b->len, b->room - b->len, bytes, len, &count) != CASTULFRISA_OK;
+    b->len += (size_t)count;
 }
 
 static void put_text(struct blob *b, const char *text) { put_string(b, text, strlen(text)); }
@@ -71,9 +74,9 @@ static void put_number(struct blob *b, const BIGNUM *n)
         return;
     }
     BN_bn2bin(n, bytes + 1);
-    castulfrisa_written w = castulfrisa_write_mpint(b->at + b->len, b->room - b->len, bytes, 1 + (size_t)len);
-    b->len += w.count;
-    b->short_of_room |= w.number != CASTULFRISA_OK;
+    uint64_t count;
+    b->short_of_room |= castulfrisa_write_mpint(b->at + b->len, b->room - b->len, bytes, 1 + (size_t)len, &count) != CASTULFRISA_OK;
+    b->len += (size_t)count;
 }
 
 /* ---- keys from their parts */

@@ -1,6 +1,5 @@
 /* The exchange, as client and as server: versions, KEXINIT, the core's steps in their order, NEWKEYS (RFC 4253, 7 and 8). */
 #include "dock.h"
-#include <openssl/crypto.h>
 #include <openssl/rand.h>
 #include <string.h>
 
@@ -8,61 +7,55 @@
 #define CIPHERS "chacha20-poly1305@openssh.com,aes256-gcm@openssh.com,aes256-ctr"
 #define MACS "hmac-sha2-256-etm@openssh.com,hmac-sha2-256"
 #define COMPRESSIONS "none"
+#define NO_MESSAGE UINT64_MAX /* in place of a message's length */
 #define DRAWS_MOST 1000000L /* for an X that begins as asked: one in 65,536 does, but for bytes that a method never has */
 
 /* All that one connection knows; wiped as a whole. */
 struct kex {
     const struct settings *set;
     struct link link;
-    uint8_t role;
+    uint64_t role;
 
     uint8_t peer_v[CASTULFRISA_V_MOST], own_i[CASTULFRISA_KEXINIT_MOST], peer_i[CASTULFRISA_KEXINIT_MOST];
     span vc, vs, ic, is; /* of those, by role */
 
-    uint8_t method;
+    uint64_t method;
     const struct scheme *scheme;
     castulfrisa_sizes sizes;
     bool drop; /* the peer guessed wrong: its next packet is not for the exchange */
 
-    castulfrisa_record record;
+    uint8_t exchange[CASTULFRISA_EXCHANGE]; /* here and nowhere else: no copy of it is made */
     uint8_t room[CASTULFRISA_ROOM];
+    uint64_t filled; /* how far the fields fill the room, for --show */
 
     EVP_PKEY *own, *peer; /* ephemeral */
     uint8_t c[CASTULFRISA_VALUE_MOST]; /* own public value: C of a client, S of a server */
+    size_t c_len;
     uint8_t x[CASTULFRISA_X_MOST], k[CASTULFRISA_K], h[CASTULFRISA_DIGEST_MOST];
+    size_t x_count, h_len;
 };
+
+#define EXCHANGE(k) (k)->exchange, sizeof (k)->exchange, (k)->room, sizeof (k)->room
 
 static span text(const char *s) { return (span){(const uint8_t *)s, strlen(s)}; }
 
 /* ---- the core's numbers */
 
 /* 0 goes on; 1 to 5 are our own limits; all others are the peer's fault. */
-static bool accepted(struct kex *k, const char *what, uint8_t number)
+static bool accepted(struct kex *k, const char *what, uint64_t number)
 {
     if (number == CASTULFRISA_OK) return true;
-    if (number <= CASTULFRISA_SHORT_OUTPUT) return trouble("%s not possible (number %u: %s)", what, (unsigned)number, cause(number));
-    return peer_fault(&k->link, "%s refused (number %u: %s)", what, (unsigned)number, cause(number));
+    if (number <= CASTULFRISA_SHORT_OUTPUT)
+        return trouble("%s not possible (number %u: %s)", what, (unsigned)number, castulfrisa_text(number));
+    return peer_fault(&k->link, "%s refused (number %u: %s)", what, (unsigned)number, castulfrisa_text(number));
 }
 
-/* How much of the room the record's fields fill, each with its four length bytes. K's are at its beginning. */
-static size_t room_filled(const castulfrisa_record *r)
+/* Shows a step, with the message that it made or read if there is one. filled: how far its fields fill the room once it is accepted. */
+static uint64_t shown(struct kex *k, const char *direction, const char *what, uint64_t length, uint64_t number, uint64_t filled)
 {
-    const size_t lens[] = {r->lens.vc, r->lens.vs, r->lens.ic, r->lens.is, r->lens.ks, r->lens.c, r->lens.s};
-    size_t filled = 0;
-    for (size_t i = 0; i < sizeof lens / sizeof lens[0]; i++)
-        if (lens[i] > 0) filled += 4 + lens[i];
-    if (r->stage == CASTULFRISA_SECRET_DONE || r->stage == CASTULFRISA_COMPLETE)
-        filled += 4 + castulfrisa_read_string(r->k, sizeof r->k).body.len;
-    return filled;
-}
-
-/* Keeps the record of an answer, clears the answer, and shows the step, with the message that it made or read if there is one. */
-static uint8_t take(struct kex *k, const char *direction, const char *what, long length, castulfrisa_answer *a)
-{
-    uint8_t number = a->number;
-    k->record = a->record;
-    OPENSSL_cleanse(a, sizeof *a);
-    show(k->link.show, direction, what, length, number, (long)room_filled(&k->record));
+    if (number == CASTULFRISA_OK) k->filled = filled;
+    else if (number > CASTULFRISA_SHORT_OUTPUT) k->filled = 0; /* a peer's fault: the room is zeros */
+    show(k->link.show, direction, what, length == NO_MESSAGE ? -1 : (long)length, (int)number, (long)k->filled);
     return number;
 }
 
@@ -82,15 +75,22 @@ static bool exchange_versions(struct kex *k)
 
 static bool send_kexinit(struct kex *k, span *own)
 {
-    uint8_t cookie[CASTULFRISA_COOKIE];
-    span m = text(k->set->methods), h = text(k->set->host_keys), c = text(CIPHERS), a = text(MACS), z = text(COMPRESSIONS);
+    static const char *const same[] = {CIPHERS, CIPHERS, MACS, MACS, COMPRESSIONS, COMPRESSIONS, "", ""};
+    uint8_t cookie[CASTULFRISA_COOKIE], joined[CASTULFRISA_KEXINIT_MOST];
+    castulfrisa_bytes lists[CASTULFRISA_LISTS];
+    castulfrisa_proposed told;
+    uint64_t ends[CASTULFRISA_LISTS];
+    for (size_t i = 0; i < CASTULFRISA_LISTS; i++) {
+        span list = text(i == 0 ? k->set->methods : i == 1 ? k->set->host_keys : same[i - 2]);
+        lists[i] = (castulfrisa_bytes){list.at, list.len};
+    }
+    uint64_t len = castulfrisa_join(lists, joined, sizeof joined, ends);
+    if (len > sizeof joined) return trouble("own lists of %lu bytes are too long", (unsigned long)len);
     if (RAND_bytes(cookie, sizeof cookie) != 1) return trouble("no random bytes");
-    castulfrisa_written w = castulfrisa_write_kexinit(
-        k->own_i, sizeof k->own_i, cookie, sizeof cookie, m.at, m.len, h.at, h.len, c.at, c.len, c.at, c.len, a.at, a.len, a.at,
-        a.len, z.at, z.len, z.at, z.len, NULL, 0, NULL, 0, false, 0);
-    *own = (span){k->own_i, w.count};
-    show(k->link.show, "->", "KEXINIT", (long)w.count, w.number, -1);
-    return accepted(k, "own KEXINIT", w.number) && link_send(&k->link, own->at, own->len);
+    uint64_t number = castulfrisa_write_kexinit(k->own_i, sizeof k->own_i, cookie, sizeof cookie, joined, len, ends, 0, 0, &told);
+    *own = (span){k->own_i, (size_t)told.count};
+    show(k->link.show, "->", "KEXINIT", (long)told.count, (int)number, -1);
+    return accepted(k, "own KEXINIT", number) && link_send(&k->link, own->at, own->len);
 }
 
 /* KEXINIT both ways, the choice, and the exchange begun. */
@@ -103,21 +103,22 @@ static bool negotiate(struct kex *k)
     /* The choice judges the payload in the buffer that it came in, whatever its length; only an accepted one is kept. */
     k->ic = client ? own : peer;
     k->is = client ? peer : own;
-    castulfrisa_choice choice = castulfrisa_choose(k->ic.at, k->ic.len, k->is.at, k->is.len);
-    show(k->link.show, "<-", "KEXINIT", (long)peer.len, choice.number, -1);
-    if (!accepted(k, "KEXINIT", choice.number)) return false;
+    castulfrisa_choice choice;
+    uint64_t number = castulfrisa_choose(k->ic.at, k->ic.len, k->is.at, k->is.len, &choice);
+    show(k->link.show, "<-", "KEXINIT", (long)peer.len, (int)number, -1);
+    if (!accepted(k, "KEXINIT", number)) return false;
     memcpy(k->peer_i, peer.at, peer.len);
     *(client ? &k->is : &k->ic) = (span){k->peer_i, peer.len};
 
     k->method = choice.method;
-    k->scheme = scheme_named(k->ic.at + choice.host_key.start, choice.host_key.len);
-    k->sizes = castulfrisa_method_sizes(k->method);
-    k->drop = client ? choice.ignore_server : choice.ignore_client;
-    if (method_name(k->method) == NULL || k->scheme == NULL) return trouble("the choice is none of our names");
+    k->scheme = scheme_named(k->ic.at + choice.host_key.start, (size_t)choice.host_key.len);
+    k->drop = (client ? choice.ignore_server : choice.ignore_client) == 1;
+    if (!makes_method(k->method) || k->scheme == NULL) return trouble("the choice is none of our names");
+    if (!accepted(k, "sizes", castulfrisa_method_sizes(k->method, &k->sizes))) return false;
 
-    castulfrisa_answer a = castulfrisa_start(k->role, k->method, k->vc.at, k->vc.len, k->vs.at, k->vs.len, k->ic.at, k->ic.len,
-                                             k->is.at, k->is.len, k->room, sizeof k->room);
-    return accepted(k, "start", take(k, "", "start", -1, &a));
+    number = castulfrisa_start(k->exchange, sizeof k->exchange, k->role, k->method, k->vc.at, k->vc.len, k->vs.at, k->vs.len, k->ic.at,
+                               k->ic.len, k->is.at, k->is.len, k->room, sizeof k->room);
+    return accepted(k, "start", shown(k, "", "start", NO_MESSAGE, number, 4 * 4 + k->vc.len + k->vs.len + k->ic.len + k->is.len));
 }
 
 /* The peer's message of the exchange, a wrong guess dropped. */
@@ -149,10 +150,13 @@ static bool exchange_newkeys(struct kex *k)
 
 static bool print_results(const struct kex *k, const char *print, enum known known)
 {
-    printf("method %u %s\n", (unsigned)k->method, method_name(k->method));
+    uint8_t name[CASTULFRISA_NAME_MOST];
+    uint64_t name_len;
+    if (castulfrisa_method_name(k->method, name, sizeof name, &name_len) != CASTULFRISA_OK) return trouble("a method without a name");
+    printf("method %u %.*s\n", (unsigned)k->method, (int)name_len, (const char *)name);
     printf("host key %s %s\n", k->scheme->name, print);
     if (k->role == CASTULFRISA_CLIENT) printf("known %s\n", known == KNOWN_YES ? "yes" : "not asked");
-    print_hex("H", k->h, k->sizes.digest_len);
+    print_hex("H", k->h, k->h_len);
     print_hex("X begins", k->x, 2);
     puts("NEWKEYS sent and received");
     return fflush(stdout) == 0 || trouble("standard output cannot be written");
@@ -165,39 +169,43 @@ static bool read_reply(struct kex *k, span *host_key, span *s, span *signature)
 {
     span reply;
     if (!receive_message(k, &reply)) return false;
-    castulfrisa_part ks = castulfrisa_reply_host_key(k->record, k->room, sizeof k->room, reply.at, reply.len);
-    castulfrisa_part sv = castulfrisa_reply_s(k->record, k->room, sizeof k->room, reply.at, reply.len);
-    castulfrisa_part sg = castulfrisa_reply_signature(k->record, k->room, sizeof k->room, reply.at, reply.len);
-    *host_key = (span){reply.at + ks.start, ks.len};
-    *s = (span){reply.at + sv.start, sv.len};
-    *signature = (span){reply.at + sg.start, sg.len};
-    castulfrisa_answer a = castulfrisa_read_reply(k->record, k->room, sizeof k->room, reply.at, reply.len);
-    return accepted(k, "REPLY", take(k, "<-", "REPLY", (long)reply.len, &a));
+    castulfrisa_reply parts;
+    uint64_t number = castulfrisa_read_reply(EXCHANGE(k), reply.at, reply.len, &parts);
+    *host_key = part_of(reply, parts.host_key);
+    *s = part_of(reply, parts.s);
+    *signature = part_of(reply, parts.signature);
+    return accepted(k, "REPLY", shown(k, "<-", "REPLY", reply.len, number, k->filled + 4 + parts.host_key.len + 4 + parts.s.len));
 }
 
-/* Hands the core what the primitives gave, and hashes what it built. */
+/* Hands the core what the primitives gave, and hashes what it built. From here on every call leaves K below it, accepted or not: it is
+   wiped before anything else is done. */
 static bool take_secret(struct kex *k, bool given, span host_key, span s)
 {
-    castulfrisa_answer a = castulfrisa_take_secret(k->record, k->room, sizeof k->room, given, k->sizes.x_len, k->x, k->sizes.x_len,
-                                                   CASTULFRISA_KEM_ABSENT, NULL, 0, host_key.at, host_key.len, s.at, s.len);
-    size_t count = a.count;
-    if (!accepted(k, "secret", take(k, "", "secret", -1, &a))) return false;
-    return exchange_hash(k->method, k->room, count, k->h) || trouble("no digest for the exchange hash");
+    uint64_t count;
+    uint64_t number = castulfrisa_take_secret(EXCHANGE(k), given, k->x_count, k->x, k->sizes.x_len, CASTULFRISA_KEM_ABSENT, NULL, 0,
+                                              host_key.at, host_key.len, s.at, s.len, &count);
+    castulfrisa_wipe_stack();
+    if (!accepted(k, "secret", shown(k, "", "secret", NO_MESSAGE, number, count))) return false;
+    return (exchange_hash(k->method, k->room, (size_t)count, k->h, &k->h_len) && k->h_len == k->sizes.digest_len)
+        || trouble("no digest for the exchange hash");
 }
 
 /* The verdict: both answers in, K out. The line says which of the two failed. */
 static bool give_verdict(struct kex *k, span host_key, span signature, const char *print, enum known *known)
 {
     const struct settings *set = k->set;
-    bool holds = signature_holds(k->scheme, host_key, signature, k->h, k->sizes.digest_len);
+    bool holds = signature_holds(k->scheme, host_key, signature, k->h, k->h_len);
     if (set->known_hosts != NULL) *known = known_host(set->known_hosts, set->host, set->port, k->scheme->key_type, host_key);
     bool trusted = *known == KNOWN_NOT_ASKED || *known == KNOWN_YES;
 
-    castulfrisa_answer a = castulfrisa_verdict(k->record, k->room, sizeof k->room, holds, trusted, k->k, sizeof k->k);
-    uint8_t number = take(k, "", "verdict", -1, &a);
+    uint64_t k_len;
+    uint64_t number = castulfrisa_verdict(EXCHANGE(k), holds, trusted, k->k, sizeof k->k, &k_len);
+    castulfrisa_wipe_stack();
+    shown(k, "", "verdict", NO_MESSAGE, number, k->filled);
     if (number != CASTULFRISA_VERDICT) return accepted(k, "verdict", number);
     const char *why = !holds ? "signature over H does not hold" : *known == KNOWN_DIFFERS ? "differs from the known one" : "not known";
-    return peer_fault(&k->link, "host key %s %s: %s (number %u: %s)", k->scheme->name, print, why, (unsigned)number, cause(number));
+    return peer_fault(&k->link, "host key %s %s: %s (number %u: %s)", k->scheme->name, print, why, (unsigned)number,
+                      castulfrisa_text(number));
 }
 
 static bool client(struct kex *k)
@@ -209,15 +217,15 @@ static bool client(struct kex *k)
     const span none = {NULL, 0};
 
     if (!exchange_versions(k) || !negotiate(k)) return false;
-    if (!draw_ephemeral(k->method, &k->own, k->c)) return trouble("no ephemeral key");
-    castulfrisa_answer a = castulfrisa_own_c(k->record, k->room, sizeof k->room, k->c, k->sizes.c_len, init, sizeof init);
-    size_t init_len = a.count;
-    uint8_t number = take(k, "->", "INIT", (long)init_len, &a);
-    if (!accepted(k, "own C", number) || !link_send(&k->link, init, init_len)) return false;
+    if (!draw_ephemeral(k->method, &k->own, k->c, &k->c_len)) return trouble("no ephemeral key");
+    uint64_t init_len;
+    uint64_t number = castulfrisa_own_c(EXCHANGE(k), k->c, k->c_len, init, sizeof init, &init_len);
+    shown(k, "->", "INIT", init_len, number, k->filled + 4 + k->c_len);
+    if (!accepted(k, "own C", number) || !link_send(&k->link, init, (size_t)init_len)) return false;
 
     if (!read_reply(k, &host_key, &s, &signature)) return false;
     k->peer = peer_public(k->own, s);
-    bool given = k->peer != NULL && derive_x(k->method, k->own, k->peer, k->x);
+    bool given = k->peer != NULL && derive_x(k->own, k->peer, k->x, &k->x_count);
     if (!take_secret(k, given, none, none)) return false;
 
     if (!fingerprint(host_key, print)) return trouble("no digest for the fingerprint");
@@ -239,9 +247,9 @@ static bool draw_against(struct kex *k, span c, bool *given)
     const struct settings *set = k->set;
     for (long draws = 0; draws < DRAWS_MOST; draws++) {
         EVP_PKEY_free(k->own);
-        if (!draw_ephemeral(k->method, &k->own, k->c)) return trouble("no ephemeral key");
+        if (!draw_ephemeral(k->method, &k->own, k->c, &k->c_len)) return trouble("no ephemeral key");
         if (k->peer == NULL) k->peer = peer_public(k->own, c);
-        *given = k->peer != NULL && derive_x(k->method, k->own, k->peer, k->x);
+        *given = k->peer != NULL && derive_x(k->own, k->peer, k->x, &k->x_count);
         if (!*given || memcmp(k->x, set->x_begins, set->x_begins_len) == 0) return true;
     }
     return trouble("no X in %ld draws begins as asked", DRAWS_MOST);
@@ -252,10 +260,10 @@ static bool read_init(struct kex *k, bool *given)
 {
     span init;
     if (!receive_message(k, &init)) return false;
-    castulfrisa_part c = castulfrisa_init_c(k->record, k->room, sizeof k->room, init.at, init.len);
-    castulfrisa_answer a = castulfrisa_read_init(k->record, k->room, sizeof k->room, init.at, init.len);
-    if (!accepted(k, "INIT", take(k, "<-", "INIT", (long)init.len, &a))) return false;
-    bool drawn = draw_against(k, (span){init.at + c.start, c.len}, given);
+    castulfrisa_part c;
+    uint64_t number = castulfrisa_read_init(EXCHANGE(k), init.at, init.len, &c);
+    if (!accepted(k, "INIT", shown(k, "<-", "INIT", init.len, number, k->filled + 4 + c.len))) return false;
+    bool drawn = draw_against(k, part_of(init, c), given);
     if (k->set->x_begins_len > 0) link_restart_clock(&k->link); /* long drawing is not the peer's delay */
     return drawn;
 }
@@ -264,12 +272,12 @@ static bool send_reply(struct kex *k, const struct host_key *key)
 {
     uint8_t signature[CASTULFRISA_BLOB_MOST], reply[CASTULFRISA_REPLY];
     size_t signature_len;
-    if (!sign_hash(key, k->scheme, k->h, k->sizes.digest_len, signature, &signature_len)) return trouble("the host key does not sign");
-    castulfrisa_answer a = castulfrisa_sign(k->record, k->room, sizeof k->room, signature, signature_len, reply, sizeof reply, k->k,
-                                            sizeof k->k);
-    size_t reply_len = a.count;
-    uint8_t number = take(k, "->", "REPLY", (long)reply_len, &a);
-    return accepted(k, "own signature", number) && link_send(&k->link, reply, reply_len);
+    if (!sign_hash(key, k->scheme, k->h, k->h_len, signature, &signature_len)) return trouble("the host key does not sign");
+    castulfrisa_signed counts;
+    uint64_t number = castulfrisa_sign(EXCHANGE(k), signature, signature_len, reply, sizeof reply, k->k, sizeof k->k, &counts);
+    castulfrisa_wipe_stack();
+    shown(k, "->", "REPLY", counts.reply, number, k->filled);
+    return accepted(k, "own signature", number) && link_send(&k->link, reply, (size_t)counts.reply);
 }
 
 static bool server(struct kex *k)
@@ -282,7 +290,7 @@ static bool server(struct kex *k)
     const span host_key = {key->blob, key->blob_len};
     if (!fingerprint(host_key, print)) return trouble("no digest for the fingerprint");
 
-    return read_init(k, &given) && take_secret(k, given, host_key, (span){k->c, k->sizes.s_len}) && send_reply(k, key)
+    return read_init(k, &given) && take_secret(k, given, host_key, (span){k->c, k->c_len}) && send_reply(k, key)
         && exchange_newkeys(k) && print_results(k, print, KNOWN_NOT_ASKED);
 }
 
@@ -293,7 +301,7 @@ static void kex_end(struct kex *k)
     EVP_PKEY_free(k->own);
     EVP_PKEY_free(k->peer);
     link_close(&k->link);
-    OPENSSL_cleanse(k, sizeof *k);
+    castulfrisa_wipe((uint8_t *)k, sizeof *k);
 }
 
 bool exchange_as_client(const struct settings *set)

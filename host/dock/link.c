@@ -221,10 +221,10 @@ static bool receive_packet(struct link *l, span *payload)
 static bool disconnected(span payload)
 {
     if (payload.len < 5) return trouble("the peer disconnected without a reason");
-    castulfrisa_string_read text = castulfrisa_read_string(payload.at + 5, payload.len - 5);
-    int len = text.body.len > 200 ? 200 : (int)text.body.len;
-    return trouble("the peer disconnected: reason %lu, %.*s", (unsigned long)number_at(payload.at + 1), len,
-                   (const char *)payload.at + 5 + text.body.start);
+    span rest = {payload.at + 5, payload.len - 5}, text = {rest.at, 0};
+    (void)take_string(&rest, &text); /* a text that is cut is none */
+    return trouble("the peer disconnected: reason %lu, %.*s", (unsigned long)number_at(payload.at + 1),
+                   text.len > 200 ? 200 : (int)text.len, (const char *)text.at);
 }
 
 bool link_receive(struct link *l, span *payload)
@@ -297,6 +297,12 @@ bool link_send(struct link *l, const uint8_t *payload, size_t len)
     return failure == NULL || trouble("sending: %s", failure);
 }
 
+static size_t put_string(uint8_t *out, size_t out_len, const uint8_t *body, size_t len)
+{
+    uint64_t count;
+    return castulfrisa_write_string(out, out_len, body, len, &count) == CASTULFRISA_OK ? (size_t)count : 0;
+}
+
 bool peer_fault(struct link *l, const char *format, ...)
 {
     static const uint8_t text[] = "key exchange failed";
@@ -314,8 +320,8 @@ bool peer_fault(struct link *l, const char *format, ...)
     if (l->sealed) return false;
     l->sealed = true;
     l->deadline = now_ms() + LAST_WORDS_MS;
-    len += castulfrisa_write_string(payload + len, sizeof payload - len, text, sizeof text - 1).count;
-    len += castulfrisa_write_string(payload + len, sizeof payload - len, NULL, 0).count;
+    len += put_string(payload + len, sizeof payload - len, text, sizeof text - 1);
+    len += put_string(payload + len, sizeof payload - len, NULL, 0);
     show(l->show, "->", "DISCONNECT", (long)len, -1, -1);
     (void)send_packet(l, payload, len);
     return false;

@@ -51,8 +51,7 @@ static bool whole_number(const char *text, long least, long most, long *value)
 
 static bool is_own_method(const char *name, size_t len)
 {
-    uint8_t method = castulfrisa_method_number((const uint8_t *)name, len);
-    return method != 0 && method_name(method) != NULL;
+    return makes_method(castulfrisa_method_number((const uint8_t *)name, len));
 }
 
 static bool is_own_scheme(const char *name, size_t len) { return scheme_named((const uint8_t *)name, len) != NULL; }
@@ -203,6 +202,8 @@ int main(int count, char **arguments)
     static struct command c = {.set = {.methods = METHODS, .timeout = TIMEOUT}, .count = 1};
     int result;
 
+    unsigned long version = castulfrisa_version();
+    if (version != CASTULFRISA_VERSION) return trouble("the library is of version %lu, not %d", version, CASTULFRISA_VERSION), FAILED;
     c.set.keys = c.keys;
     signal(SIGPIPE, SIG_IGN); /* a reader of our output that went away is a failure like others */
     if (count < 2) return misused("client or server?", NULL);

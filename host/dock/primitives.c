@@ -4,19 +4,19 @@
 #include <openssl/ec.h>
 #include <string.h>
 
-/* What libcrypto calls the parts of a method; lengths are the core's. */
-static const struct { const char *name, *type, *group, *digest; } rows[] = {
-    [CASTULFRISA_CURVE25519_SHA256] = {"curve25519-sha256", "X25519", NULL, "SHA256"},
-    [CASTULFRISA_CURVE25519_SHA256_LIBSSH] = {"curve25519-sha256@libssh.org", "X25519", NULL, "SHA256"},
-    [CASTULFRISA_CURVE448_SHA512] = {"curve448-sha512", "X448", NULL, "SHA512"},
-    [CASTULFRISA_NISTP256_SHA256] = {"ecdh-sha2-nistp256", "EC", "prime256v1", "SHA256"},
-    [CASTULFRISA_NISTP384_SHA384] = {"ecdh-sha2-nistp384", "EC", "secp384r1", "SHA384"},
-    [CASTULFRISA_NISTP521_SHA512] = {"ecdh-sha2-nistp521", "EC", "secp521r1", "SHA512"},
+/* What libcrypto calls the parts of a method; names and lengths are the core's. */
+static const struct { const char *type, *group, *digest; } rows[] = {
+    [CASTULFRISA_CURVE25519_SHA256] = {"X25519", NULL, "SHA256"},
+    [CASTULFRISA_CURVE25519_SHA256_LIBSSH] = {"X25519", NULL, "SHA256"},
+    [CASTULFRISA_CURVE448_SHA512] = {"X448", NULL, "SHA512"},
+    [CASTULFRISA_NISTP256_SHA256] = {"EC", "prime256v1", "SHA256"},
+    [CASTULFRISA_NISTP384_SHA384] = {"EC", "secp384r1", "SHA384"},
+    [CASTULFRISA_NISTP521_SHA512] = {"EC", "secp521r1", "SHA512"},
 };
 
-const char *method_name(uint8_t method) { return method < sizeof rows / sizeof rows[0] ? rows[method].name : NULL; }
+bool makes_method(uint64_t method) { return method < sizeof rows / sizeof rows[0] && rows[method].type != NULL; }
 
-bool draw_ephemeral(uint8_t method, EVP_PKEY **own, uint8_t c[CASTULFRISA_VALUE_MOST])
+bool draw_ephemeral(uint64_t method, EVP_PKEY **own, uint8_t c[CASTULFRISA_VALUE_MOST], size_t *c_len)
 {
     EVP_PKEY_CTX *context = EVP_PKEY_CTX_new_from_name(NULL, rows[method].type, NULL);
     uint8_t *encoded = NULL;
@@ -28,8 +28,9 @@ bool draw_ephemeral(uint8_t method, EVP_PKEY **own, uint8_t c[CASTULFRISA_VALUE_
         && (rows[method].group == NULL || EVP_PKEY_CTX_set_group_name(context, rows[method].group) > 0)
         && EVP_PKEY_generate(context, own) > 0;
     if (drawn) len = EVP_PKEY_get1_encoded_public_key(*own, &encoded);
-    drawn = drawn && len == castulfrisa_method_sizes(method).c_len;
+    drawn = drawn && len > 0 && len <= CASTULFRISA_VALUE_MOST;
     if (drawn) memcpy(c, encoded, len);
+    *c_len = len;
     OPENSSL_free(encoded);
     EVP_PKEY_CTX_free(context);
     if (!drawn) {
@@ -54,26 +55,24 @@ EVP_PKEY *peer_public(EVP_PKEY *own, span value)
     return peer;
 }
 
-bool derive_x(uint8_t method, EVP_PKEY *own, EVP_PKEY *peer, uint8_t x[CASTULFRISA_X_MOST])
+bool derive_x(EVP_PKEY *own, EVP_PKEY *peer, uint8_t x[CASTULFRISA_X_MOST], size_t *x_count)
 {
     EVP_PKEY_CTX *context = EVP_PKEY_CTX_new_from_pkey(NULL, own, NULL);
-    size_t len = CASTULFRISA_X_MOST;
+    *x_count = CASTULFRISA_X_MOST;
     /* The point was checked when it came in: not once more for each draw. */
     bool derived = context != NULL && EVP_PKEY_derive_init(context) > 0 && EVP_PKEY_derive_set_peer_ex(context, peer, 0) > 0
-        && EVP_PKEY_derive(context, x, &len) > 0 && len == castulfrisa_method_sizes(method).x_len;
+        && EVP_PKEY_derive(context, x, x_count) > 0;
     EVP_PKEY_CTX_free(context);
     return derived;
 }
 
-bool exchange_hash(uint8_t method, const uint8_t *input, size_t len, uint8_t h[CASTULFRISA_DIGEST_MOST])
+bool exchange_hash(uint64_t method, const uint8_t *input, size_t len, uint8_t h[CASTULFRISA_DIGEST_MOST], size_t *h_len)
 {
-    size_t h_len = 0;
-    return EVP_Q_digest(NULL, rows[method].digest, NULL, input, len, h, &h_len) == 1
-        && h_len == castulfrisa_method_sizes(method).digest_len;
+    return EVP_Q_digest(NULL, rows[method].digest, NULL, input, len, h, h_len) == 1;
 }
 
 void wipe_stack(void)
 {
-    uint8_t below[1 << 18]; /* more than an exchange's calls and buffers take */
+    uint8_t below[1 << 18]; /* more than an exchange's buffers and libcrypto's calls take */
     OPENSSL_cleanse(below, sizeof below);
 }

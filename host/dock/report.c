@@ -19,32 +19,6 @@ bool trouble(const char *format, ...)
     return false;
 }
 
-const char *cause(uint8_t number)
-{
-    switch ((enum castulfrisa_number)number) {
-    case CASTULFRISA_OK: return "accepted";
-    case CASTULFRISA_NOT_DUE: return "the step is not due";
-    case CASTULFRISA_NO_METHOD: return "no such method or role";
-    case CASTULFRISA_SHORT_ROOM: return "room too short";
-    case CASTULFRISA_BAD_INPUT: return "a field, outcome or digest handed in has a wrong length or form";
-    case CASTULFRISA_SHORT_OUTPUT: return "an output too short";
-    case CASTULFRISA_PAYLOAD_SIZE: return "payload empty or too long";
-    case CASTULFRISA_MESSAGE: return "another message's number";
-    case CASTULFRISA_PAST_END: return "a field passes the end";
-    case CASTULFRISA_LEFT_OVER: return "bytes left over";
-    case CASTULFRISA_FIELD_LENGTH: return "field length not allowed";
-    case CASTULFRISA_LEAD_BYTE: return "a NIST point does not begin with 4";
-    case CASTULFRISA_CLASSICAL: return "classical primitive failed, or all zero";
-    case CASTULFRISA_KEM: return "KEM failed";
-    case CASTULFRISA_VERDICT: return "signature or host key not accepted";
-    case CASTULFRISA_BAD_NAME: return "bad name in a list";
-    case CASTULFRISA_NO_COMMON_METHOD: return "no method in both lists";
-    case CASTULFRISA_NO_COMMON_HOST_KEY: return "no host key name in both lists";
-    case CASTULFRISA_NOT_SHORTEST: return "mpint body could be shorter";
-    }
-    return "unknown";
-}
-
 void show(bool on, const char *direction, const char *what, long length, int number, long room)
 {
     if (!on) return;

@@ -14,8 +14,10 @@ static uint8_t stack[STACK] __attribute__((aligned(4096)));
 static uint8_t room[CASTULFRISA_ROOM], kexinit[CASTULFRISA_KEXINIT_MOST], version[CASTULFRISA_V_MOST], list[3999];
 static uint8_t init[CASTULFRISA_INIT], reply[CASTULFRISA_REPLY], k[CASTULFRISA_K];
 static uint8_t value[CASTULFRISA_VALUE_MOST], x[48], digest[48], ks[CASTULFRISA_BLOB_MOST], signature[CASTULFRISA_BLOB_MOST];
-static castulfrisa_answer a;
-static size_t init_len, reply_len;
+static uint8_t exchange[CASTULFRISA_EXCHANGE];
+static uint64_t init_len, reply_len, number; /* the last call's number */
+
+#define EXCHANGE exchange, sizeof exchange, room, sizeof room
 
 static const uint8_t *b(const char *s) { return (const uint8_t *)s; }
 
@@ -25,44 +27,74 @@ static void nothing(void) {}
 
 static void write_kexinit(void)
 {
-    castulfrisa_write_kexinit(
-        kexinit, sizeof kexinit, b("0123456789abcdef"), 16, b("mlkem1024nistp384-sha384"), 24, b("ssh-ed25519"), 11, list, sizeof list,
-        b(""), 0, b(""), 0, b(""), 0, b(""), 0, b(""), 0, b(""), 0, b(""), 0, false, 0);
+    const castulfrisa_bytes lists[CASTULFRISA_LISTS] = {
+        {b("mlkem1024nistp384-sha384"), 24}, {b("ssh-ed25519"), 11}, {list, sizeof list}, {NULL, 0}, {NULL, 0},
+        {NULL, 0}, {NULL, 0}, {NULL, 0}, {NULL, 0}, {NULL, 0}};
+    static uint8_t joined[CASTULFRISA_KEXINIT_MOST];
+    uint64_t ends[CASTULFRISA_LISTS], len = castulfrisa_join(lists, joined, sizeof joined, ends);
+    castulfrisa_proposed told;
+    number = castulfrisa_write_kexinit(kexinit, sizeof kexinit, b("0123456789abcdef"), 16, joined, len, ends, 0, 0, &told);
 }
 
-static void choose(void) { castulfrisa_choose(kexinit, sizeof kexinit, kexinit, sizeof kexinit); }
-
-static void start(uint8_t role)
+static void choose(void)
 {
-    a = castulfrisa_start(
-        role, METHOD, version, sizeof version, version, sizeof version, kexinit, sizeof kexinit, kexinit, sizeof kexinit, room, sizeof room);
+    castulfrisa_choice choice;
+    number = castulfrisa_choose(kexinit, sizeof kexinit, kexinit, sizeof kexinit, &choice);
+}
+
+static void start(uint64_t role)
+{
+    number = castulfrisa_start(exchange, sizeof exchange, role, METHOD, version, sizeof version, version, sizeof version, kexinit,
+                               sizeof kexinit, kexinit, sizeof kexinit, room, sizeof room);
 }
 
 static void take_secret(void)
 {
-    a = castulfrisa_take_secret(
-        a.record, room, sizeof room, true, sizeof x, x, sizeof x, CASTULFRISA_KEM_DONE, digest, sizeof digest, ks, sizeof ks, value, sizeof value);
+    uint64_t count;
+    number = castulfrisa_take_secret(EXCHANGE, 1, sizeof x, x, sizeof x, CASTULFRISA_KEM_DONE, digest, sizeof digest, ks, sizeof ks,
+                                     value, sizeof value, &count);
+}
+
+static void wipe(void)
+{
+    castulfrisa_wipe(exchange, sizeof exchange);
+    castulfrisa_wipe(room, sizeof room);
 }
 
 #if ROLE & 1
 static void start_client(void) { start(CASTULFRISA_CLIENT); }
-static void own_c(void) { a = castulfrisa_own_c(a.record, room, sizeof room, value, sizeof value, init, sizeof init); }
-static void reply_parts(void)
+
+static void own_c(void)
 {
-    castulfrisa_reply_host_key(a.record, room, sizeof room, reply, reply_len);
-    castulfrisa_reply_s(a.record, room, sizeof room, reply, reply_len);
-    castulfrisa_reply_signature(a.record, room, sizeof room, reply, reply_len);
+    uint64_t count;
+    number = castulfrisa_own_c(EXCHANGE, value, sizeof value, init, sizeof init, &count);
 }
-static void read_reply(void) { a = castulfrisa_read_reply(a.record, room, sizeof room, reply, reply_len); }
-static void verdict(void) { a = castulfrisa_verdict(a.record, room, sizeof room, true, true, k, sizeof k); }
+
+static void read_reply(void)
+{
+    castulfrisa_reply parts;
+    number = castulfrisa_read_reply(EXCHANGE, reply, reply_len, &parts);
+}
+
+static void verdict(void)
+{
+    uint64_t count;
+    number = castulfrisa_verdict(EXCHANGE, 1, 1, k, sizeof k, &count);
+}
 #endif
 #if ROLE & 2
 static void start_server(void) { start(CASTULFRISA_SERVER); }
-static void init_c(void) { castulfrisa_init_c(a.record, room, sizeof room, init, init_len); }
-static void read_init(void) { a = castulfrisa_read_init(a.record, room, sizeof room, init, init_len); }
+
+static void read_init(void)
+{
+    castulfrisa_part c;
+    number = castulfrisa_read_init(EXCHANGE, init, init_len, &c);
+}
+
 static void sign(void)
 {
-    a = castulfrisa_sign(a.record, room, sizeof room, signature, sizeof signature, reply, sizeof reply, k, sizeof k);
+    castulfrisa_signed counts;
+    number = castulfrisa_sign(EXCHANGE, signature, sizeof signature, reply, sizeof reply, k, sizeof k, &counts);
 }
 #endif
 
@@ -88,11 +120,13 @@ static size_t depth(void (*call)(void))
 }
 
 static size_t deepest;
+static int refused;
 
 static void tell(const char *name, void (*call)(void), size_t base)
 {
     size_t d = depth(call) - base;
-    printf("stack %s %zu %u\n", name, d, (unsigned)a.number);
+    printf("stack %s %zu %u\n", name, d, (unsigned)number);
+    if (number != 0) refused = 1;
     if (d > deepest) deepest = d;
 }
 
@@ -128,21 +162,18 @@ int main(void)
 #if ROLE & 1
     tell("start", start_client, base);
     tell("own_c", own_c, base);
-    tell("reply_parts", reply_parts, base);
     tell("read_reply", read_reply, base);
     tell("take_secret", take_secret, base);
     tell("verdict", verdict, base);
-    if (a.number != 0 || a.record.stage != CASTULFRISA_COMPLETE) return 1;
 #endif
 #if ROLE & 2
     tell("start", start_server, base);
-    tell("init_c", init_c, base);
     tell("read_init", read_init, base);
     tell("take_secret", take_secret, base);
     tell("sign", sign, base);
-    if (a.number != 0 || a.record.stage != CASTULFRISA_COMPLETE) return 1;
 #endif
+    tell("wipe", wipe, base);
     printf("deepest %zu\n", deepest);
-    printf("record %zu answer %zu\n", sizeof(castulfrisa_record), sizeof(castulfrisa_answer));
-    return 0;
+    printf("sizes %d %d %d %d %d\n", CASTULFRISA_ROOM, CASTULFRISA_EXCHANGE, CASTULFRISA_K, CASTULFRISA_INIT, CASTULFRISA_REPLY);
+    return refused || deepest >= CASTULFRISA_STACK;
 }

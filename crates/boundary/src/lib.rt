@@ -1,311 +1,411 @@
-// The C boundary: every entry of the core, exported. Numbers and slices pass as they are; the exchange, which holds an enum, crosses by
-// value as a record of numbers. A record that no exchange has is answered 1 and handed back as it was.
-use choice::Choice;
-use kexinit::Opened;
-use mpint::MpintRead;
+// The C boundary: every entry of the core, exported. Only what every C calling convention agrees on crosses: slices as a pointer and a
+// 64-bit length, pointers to 64-bit numbers, and 64-bit numbers. A call returns its number; what else it tells goes through lent numbers.
 use names::Cursor;
-use names::Next;
-use records::Answer;
-use records::Record;
-use wire::Part;
-use wire::StringRead;
-use writers::Written;
 ghost use mathlib.Core.Path.{_≡_};
-ghost use mathlib.Core.List.{[], _∷_};
-ghost use lib.ListN.{length};
+ghost use mathlib.Core.List.{[], _∷_, _++_};
+ghost use mathlib.Core.Bool.{cond};
+ghost use lib.ListN.{length, getD};
+ghost use Rattle.limits.specs.Limits.{libraryVersion};
+ghost use Rattle.buffers.specs.Bytes.{zeros};
 ghost use Rattle.wire.specs.Strings.{string, readString};
 ghost use Rattle.writers.specs.Writers.{wrote, leaves, stringCause};
 ghost use Rattle.mpint.specs.Mpint.{shortest, mpint, readMpint};
-ghost use Rattle.methods.specs.Rows.{numberOf};
+ghost use Rattle.methods.specs.Rows.{numberOf, rowOf, nameOf};
+ghost use Rattle.lookups.specs.Lookups.{methodCause, sizesOf, nameCause};
 ghost use Rattle.names.specs.Cursor.{nextName};
-ghost use Rattle.proposal.specs.Proposal.{kexinitOf, kexinit, writeCause};
+ghost use Rattle.proposal.specs.Proposal.{kexinit};
+ghost use Rattle.lists.specs.Lists.{firstBad, proposed, tableCause};
 ghost use Rattle.kexinit.specs.Reader.{openList};
 ghost use Rattle.common.specs.Common.{any};
 ghost use Rattle.choice.specs.Choice.{chosen};
-ghost use Rattle.messages.specs.Messages.{initBytes};
-ghost use Rattle.exchange.specs.Steps.{ownC, init, reply, secret as secretStep, sign as signStep, verdict as verdictStep, number, answered, replyOf, roomAfter, outputAfter, stepPart, started, startedRoom};
-ghost use Rattle.records.specs.Record.{openedOf, stepAnswer, classicalOf, kemOf};
-ghost use Rattle.on_record.specs.Exports.{exported, bufferBy, partBy};
-ghost use Rattle.boundary.specs.Sizes.{sizesOf};
-
-// A method's sizes and rules; all 0 for a number that is no method.
-#[repr(C)]
-pub struct Sizes {
-    pub c_len: usize,
-    pub c_classical: usize,
-    pub s_len: usize,
-    pub s_classical: usize,
-    pub x_len: usize,
-    pub digest_len: usize,
-    pub hybrid: bool,
-    pub zero_check: bool,
-}
+ghost use Rattle.exchange.specs.Steps.{ownC, init, reply, secret as secretStep, sign as signStep, verdict as verdictStep, number, stepPart};
+ghost use Rattle.arguments.specs.Arguments.{isYes, classicalOf, kemOf};
+ghost use Rattle.stored.specs.Stored.{stageNumber, failNumber, decoded, byFit};
+ghost use Rattle.lent.specs.Lent.{placeOf, left, lentStart, lentCall};
+ghost use Rattle.boundary.specs.Told.{cursorOf, cursorNumbers, openedNumbers, choiceNumbers};
 
 // ---- the codecs
 
-// The string at the front of s.
+// The string at the front of s. Told: the places of its body and of the rest.
 #[no_mangle]
-pub extern "C" fn castulfrisa_read_string(s: &[u8]) -> StringRead
-    ensures { λ r. ⌜ r ≡ readString (now (s .entry)) ⌝ }
+pub extern "C" fn castulfrisa_read_string(s: &[u8], places: &mut [u64; 4]) -> u64
+    ensures { λ n.
+        let r = readString (now (s .entry)) in
+        ⌜ (n ≡ r .number) × (now (places .exit) ≡ placeOf (r .body) ++ placeOf (r .rest)) ⌝ }
 {
-    wire::read_string(s)
+    let r = wire::read_string(s);
+    *places = [
+        r.body.start as u64,
+        r.body.len as u64,
+        r.rest.start as u64,
+        r.rest.len as u64,
+    ];
+    r.number as u64
 }
 
-// Writes body as a string.
+// Writes body as a string. Told: its count.
 #[no_mangle]
-pub extern "C" fn castulfrisa_write_string(out: &mut [u8], body: &[u8]) -> Written
-    ensures { λ r. ⌜ (r ≡ wrote (stringCause (length (now (out .entry))) (now (body .entry))) (string (now (body .entry)))) × (now (out .exit) ≡ leaves (stringCause (length (now (out .entry))) (now (body .entry))) (string (now (body .entry))) (now (out .entry))) ⌝ }
+pub extern "C" fn castulfrisa_write_string(out: &mut [u8], body: &[u8], count: &mut u64) -> u64
+    ensures { λ n.
+        let b = now (body .entry) in
+        let cause = stringCause (length (now (out .entry))) b in
+        ⌜ (n ≡ cause) × (now (count .exit) ≡ wrote cause (string b) .count) × (now (out .exit) ≡ leaves cause (string b) (now (out .entry))) ⌝ }
 {
-    writers::write_string(out, body)
+    let w = writers::write_string(out, body);
+    *count = w.count as u64;
+    w.number as u64
 }
 
-// The mpint at the front of s.
+// The mpint at the front of s. Told: its sign, and the places of its body and of the rest.
 #[no_mangle]
-pub extern "C" fn castulfrisa_read_mpint(s: &[u8]) -> MpintRead
-    ensures { λ r. ⌜ r ≡ readMpint (now (s .entry)) ⌝ }
+pub extern "C" fn castulfrisa_read_mpint(s: &[u8], sign: &mut i64, places: &mut [u64; 4]) -> u64
+    ensures { λ n.
+        let r = readMpint (now (s .entry)) in
+        ⌜ (n ≡ r .number) × (now (sign .exit) ≡ r .sign) × (now (places .exit) ≡ placeOf (r .body) ++ placeOf (r .rest)) ⌝ }
 {
-    mpint::read_mpint(s)
+    let r = mpint::read_mpint(s);
+    *sign = lookups::told_sign(r.sign);
+    *places = [
+        r.body.start as u64,
+        r.body.len as u64,
+        r.rest.start as u64,
+        r.rest.len as u64,
+    ];
+    r.number as u64
 }
 
-// Writes the number of two's complement bytes as an mpint.
+// Writes the number of two's complement bytes as an mpint. Told: its count.
 #[no_mangle]
-pub extern "C" fn castulfrisa_write_mpint(out: &mut [u8], bytes: &[u8]) -> Written
-    ensures { λ r. ⌜ (r ≡ wrote (stringCause (length (now (out .entry))) (shortest (now (bytes .entry)))) (mpint (now (bytes .entry)))) × (now (out .exit) ≡ leaves (stringCause (length (now (out .entry))) (shortest (now (bytes .entry)))) (mpint (now (bytes .entry))) (now (out .entry))) ⌝ }
+pub extern "C" fn castulfrisa_write_mpint(out: &mut [u8], bytes: &[u8], count: &mut u64) -> u64
+    ensures { λ n.
+        let b = now (bytes .entry) in
+        let cause = stringCause (length (now (out .entry))) (shortest b) in
+        ⌜ (n ≡ cause) × (now (count .exit) ≡ wrote cause (mpint b) .count) × (now (out .exit) ≡ leaves cause (mpint b) (now (out .entry))) ⌝ }
 {
-    mpint::write_mpint(out, bytes)
+    let w = mpint::write_mpint(out, bytes);
+    *count = w.count as u64;
+    w.number as u64
 }
 
 // ---- the methods
 
 // The number of the method of this name, 0 with none.
 #[no_mangle]
-pub extern "C" fn castulfrisa_method_number(name: &[u8]) -> u8
-    ensures { λ r. ⌜ r ≡ numberOf (now (name .entry)) ⌝ }
+pub extern "C" fn castulfrisa_method_number(name: &[u8]) -> u64
+    ensures { λ n. ⌜ n ≡ numberOf (now (name .entry)) ⌝ }
 {
-    methods::number_of(name)
+    methods::number_of(name) as u64
 }
 
-// The sizes of a method, all 0 for a number that is none.
+// The name of a method. Told: its count.
 #[no_mangle]
-pub extern "C" fn castulfrisa_method_sizes(method: u8) -> Sizes
-    ensures { λ r. ⌜ r ≡ sizesOf method ⌝ }
+pub extern "C" fn castulfrisa_method_name(method: u64, out: &mut [u8], count: &mut u64) -> u64
+    ensures { λ n.
+        let name = nameOf (rowOf method) in
+        let cause = nameCause (length (now (out .entry))) method in
+        ⌜ (n ≡ cause) × (now (count .exit) ≡ wrote cause name .count) × (now (out .exit) ≡ leaves cause name (now (out .entry))) ⌝ }
 {
-    let m = methods::method_of(method);
-    let form = m.k_form;
-    Sizes {
-        c_len: m.c.len,
-        c_classical: m.c.classical,
-        s_len: m.s.len,
-        s_classical: m.s.classical,
-        x_len: m.x_len,
-        digest_len: m.digest_len,
-        hybrid: methods::is_hybrid(form),
-        zero_check: m.zero_check,
-    }
+    lookups::method_name(method, out, count)
+}
+
+// The sizes and rules of a method.
+#[no_mangle]
+pub extern "C" fn castulfrisa_method_sizes(method: u64, sizes: &mut [u64; 8]) -> u64
+    ensures { λ n. ⌜ (n ≡ methodCause method) × (now (sizes .exit) ≡ sizesOf method) ⌝ }
+{
+    lookups::method_sizes(method, sizes)
 }
 
 // ---- KEXINIT
 
-// Opens a payload for one of its ten lists.
+// Opens a payload for one of its ten lists. Told: the cookie's place, the boolean, the reserved number, and a cursor.
 #[no_mangle]
-pub extern "C" fn castulfrisa_open_list(payload: &[u8], list: usize) -> Opened
-    ensures { λ r. ⌜ r ≡ openList (now (payload .entry)) list ⌝ }
+pub extern "C" fn castulfrisa_open_list(payload: &[u8], list: u64, opened: &mut [u64; 6]) -> u64
+    ensures { λ n.
+        let r = openList (now (payload .entry)) list in
+        ⌜ (n ≡ r .head .number) × (now (opened .exit) ≡ openedNumbers r) ⌝ }
 {
-    kexinit::open_list(payload, list)
+    let r = kexinit::open_list(payload, list as usize);
+    let h = r.head;
+    let c = r.cursor;
+    *opened = [
+        h.cookie.start as u64,
+        h.cookie.len as u64,
+        lookups::told(h.follows),
+        h.reserved as u64,
+        c.at as u64,
+        c.end as u64,
+    ];
+    h.number as u64
 }
 
-// The next name of an opened list.
+// The next name of an opened list; the cursor moves behind it. Told: its place, with no bytes at the list's end.
 #[no_mangle]
-pub extern "C" fn castulfrisa_next_name(payload: &[u8], cursor: Cursor) -> Next
-    ensures { λ r. ⌜ r ≡ nextName (now (payload .entry)) cursor ⌝ }
+pub extern "C" fn castulfrisa_next_name(
+    payload: &[u8],
+    cursor: &mut [u64; 2],
+    name: &mut [u64; 2],
+) -> u64
+    ensures { λ n.
+        let r = nextName (now (payload .entry)) (cursorOf (now (cursor .entry))) in
+        ⌜ (n ≡ r .number) × (now (cursor .exit) ≡ cursorNumbers (r .cursor)) × (now (name .exit) ≡ placeOf (r .name)) ⌝ }
 {
-    names::next_name(payload, cursor)
+    let c = Cursor {
+        at: cursor[0] as usize,
+        end: cursor[1] as usize,
+    };
+    let r = names::next_name(payload, c);
+    let d = r.cursor;
+    *cursor = [d.at as u64, d.end as u64];
+    *name = [r.name.start as u64, r.name.len as u64];
+    r.number as u64
 }
 
-// Writes a KEXINIT.
+// Writes a KEXINIT from ten lists, told by their ends. Told: its count, and which list is bad.
 #[no_mangle]
 pub extern "C" fn castulfrisa_write_kexinit(
     out: &mut [u8],
     cookie: &[u8],
-    kex: &[u8],
-    host_key: &[u8],
-    cipher_in: &[u8],
-    cipher_out: &[u8],
-    mac_in: &[u8],
-    mac_out: &[u8],
-    compression_in: &[u8],
-    compression_out: &[u8],
-    language_in: &[u8],
-    language_out: &[u8],
-    follows: bool,
-    reserved: u32,
-) -> Written
-    ensures { λ r.
-        let k = kexinitOf (now (cookie .entry)) (now (kex .entry) ∷ now («host_key» .entry) ∷ now («cipher_in» .entry) ∷ now («cipher_out» .entry) ∷ now («mac_in» .entry) ∷ now («mac_out» .entry) ∷ now («compression_in» .entry) ∷ now («compression_out» .entry) ∷ now («language_in» .entry) ∷ now («language_out» .entry) ∷ []) follows reserved in
-        ⌜ (r ≡ wrote (writeCause (length (now (out .entry))) k) (kexinit k)) × (now (out .exit) ≡ leaves (writeCause (length (now (out .entry))) k) (kexinit k) (now (out .entry))) ⌝ }
+    lists: &[u8],
+    ends: &[u64; limits::LIST_COUNT],
+    follows: u64,
+    reserved: u64,
+    told: &mut [u64; 2],
+) -> u64
+    ensures { λ n.
+        let k = proposed (now (cookie .entry)) (now (lists .entry)) (now (ends .entry)) follows reserved in
+        let cause = tableCause (length (now (out .entry))) (now (cookie .entry)) (now (lists .entry)) (now (ends .entry)) follows reserved in
+        ⌜ (n ≡ cause) × (now (told .exit) ≡ wrote cause (kexinit k) .count ∷ firstBad (now (lists .entry)) (now (ends .entry)) ∷ []) × (now (out .exit) ≡ leaves cause (kexinit k) (now (out .entry))) ⌝ }
 {
-    proposal::write_kexinit(
-        out,
-        cookie,
-        kex,
-        host_key,
-        cipher_in,
-        cipher_out,
-        mac_in,
-        mac_out,
-        compression_in,
-        compression_out,
-        language_in,
-        language_out,
-        follows,
-        reserved,
-    )
+    lists::write_lists(out, cookie, lists, ends, follows, reserved, told)
 }
 
-// The choice from a client's and a server's KEXINIT.
+// The choice from a client's and a server's KEXINIT. Told: the method, the host key name's place in the client's payload, and whether
+// each side's next packet is to be ignored.
 #[no_mangle]
-pub extern "C" fn castulfrisa_choose(client: &[u8], server: &[u8]) -> Choice
-    ensures { λ r. ⌜ r ≡ chosen any (now (client .entry)) (now (server .entry)) ⌝ }
+pub extern "C" fn castulfrisa_choose(client: &[u8], server: &[u8], choice: &mut [u64; 5]) -> u64
+    ensures { λ n.
+        let r = chosen any (now (client .entry)) (now (server .entry)) in
+        ⌜ (n ≡ r .number) × (now (choice .exit) ≡ choiceNumbers r) ⌝ }
 {
-    choice::choose(client, server)
+    let r = choice::choose(client, server);
+    *choice = [
+        r.method as u64,
+        r.host_key.start as u64,
+        r.host_key.len as u64,
+        lookups::told(r.ignore_client),
+        lookups::told(r.ignore_server),
+    ];
+    r.number as u64
 }
 
-// ---- the exchange
+// ---- the exchange, in bytes that the host lends
 
 // Starts an exchange.
 #[no_mangle]
 pub extern "C" fn castulfrisa_start(
-    role: u8,
-    method: u8,
+    ex: &mut [u8],
+    role: u64,
+    method: u64,
     vc: &[u8],
     vs: &[u8],
     ic: &[u8],
     is: &[u8],
     room: &mut [u8],
-) -> Answer
-    ensures { λ r. ⌜ (r ≡ stepAnswer (started role method (now (vc .entry)) (now (vs .entry)) (now (ic .entry)) (now (is .entry)) (length (now (room .entry))))) × (now (room .exit) ≡ startedRoom role method (now (vc .entry)) (now (vs .entry)) (now (ic .entry)) (now (is .entry)) (now (room .entry))) ⌝ }
+) -> u64
+    ensures { λ n. ⌜ left n [] (now (ex .exit)) (now (room .exit)) [] ≡ lentStart (now (ex .entry)) role method (now (vc .entry)) (now (vs .entry)) (now (ic .entry)) (now (is .entry)) (now (room .entry)) ⌝ }
 {
-    on_record::start(role, method, vc, vs, ic, is, room)
+    lent::start(ex, role, method, vc, vs, ic, is, room)
 }
 
-// Client, own C.
+// Client, own C. Told: INIT's count.
 #[no_mangle]
-pub extern "C" fn castulfrisa_own_c(r: Record, room: &mut [u8], c: &[u8], out: &mut [u8]) -> Answer
-    ensures { λ a.
-        let e = openedOf r .exchange in
+pub extern "C" fn castulfrisa_own_c(
+    ex: &mut [u8],
+    room: &mut [u8],
+    c: &[u8],
+    out: &mut [u8],
+    count: &mut u64,
+) -> u64
+    ensures { λ n.
         let q = ownC (now (c .entry)) (length (now (out .entry))) in
-        ⌜ (a ≡ exported r (answered e (now (room .entry)) q)) × (now (room .exit) ≡ bufferBy r (roomAfter e (now (room .entry)) q) (now (room .entry))) × (now (out .exit) ≡ bufferBy r (outputAfter (number e (now (room .entry)) q) (now (out .entry)) (initBytes (now (c .entry)))) (now (out .entry))) ⌝ }
+        ⌜ left n (now (count .exit) ∷ []) (now (ex .exit)) (now (room .exit)) (now (out .exit) ∷ []) ≡ lentCall (now (ex .entry)) (now (room .entry)) q (now (out .entry) ∷ []) ⌝ }
 {
-    on_record::own_c(r, room, c, out)
+    lent::own_c(ex, room, c, out, count)
 }
 
-// Server, INIT read.
+// Server, INIT read. Told: C's place.
 #[no_mangle]
-pub extern "C" fn castulfrisa_read_init(r: Record, room: &mut [u8], payload: &[u8]) -> Answer
-    ensures { λ a.
-        let e = openedOf r .exchange in
-        let q = init (now (payload .entry)) in
-        ⌜ (a ≡ exported r (answered e (now (room .entry)) q)) × (now (room .exit) ≡ bufferBy r (roomAfter e (now (room .entry)) q) (now (room .entry))) ⌝ }
+pub extern "C" fn castulfrisa_read_init(
+    ex: &mut [u8],
+    room: &mut [u8],
+    payload: &[u8],
+    place: &mut [u64; 2],
+) -> u64
+    ensures { λ n. ⌜ left n (now (place .exit)) (now (ex .exit)) (now (room .exit)) [] ≡ lentCall (now (ex .entry)) (now (room .entry)) (init (now (payload .entry))) [] ⌝ }
 {
-    on_record::read_init(r, room, payload)
+    lent::read_init(ex, room, payload, place)
 }
 
-// Client, REPLY read.
+// Client, REPLY read. Told: the places of K_S, S and the signature.
 #[no_mangle]
-pub extern "C" fn castulfrisa_read_reply(r: Record, room: &mut [u8], payload: &[u8]) -> Answer
-    ensures { λ a.
-        let e = openedOf r .exchange in
-        let q = reply (now (payload .entry)) in
-        ⌜ (a ≡ exported r (answered e (now (room .entry)) q)) × (now (room .exit) ≡ bufferBy r (roomAfter e (now (room .entry)) q) (now (room .entry))) ⌝ }
+pub extern "C" fn castulfrisa_read_reply(
+    ex: &mut [u8],
+    room: &mut [u8],
+    payload: &[u8],
+    places: &mut [u64; 6],
+) -> u64
+    ensures { λ n. ⌜ left n (now (places .exit)) (now (ex .exit)) (now (room .exit)) [] ≡ lentCall (now (ex .entry)) (now (room .entry)) (reply (now (payload .entry))) [] ⌝ }
 {
-    on_record::read_reply(r, room, payload)
+    lent::read_reply(ex, room, payload, places)
 }
 
-// Both roles, the secret.
+// Both roles, the secret. Told: the hash input's count.
 #[no_mangle]
 pub extern "C" fn castulfrisa_take_secret(
-    r: Record,
+    ex: &mut [u8],
     room: &mut [u8],
-    given: bool,
-    x_count: usize,
+    given: u64,
+    x_count: u64,
     x: &[u8],
-    kem: u8,
+    kem: u64,
     digest: &[u8],
     ks: &[u8],
     s: &[u8],
-) -> Answer
-    ensures { λ a.
-        let e = openedOf r .exchange in
-        let q = secretStep (classicalOf given «x_count») (now (x .entry)) (kemOf (r .method) kem) (now (digest .entry)) (now (ks .entry)) (now (s .entry)) in
-        ⌜ (a ≡ exported r (answered e (now (room .entry)) q)) × (now (room .exit) ≡ bufferBy r (roomAfter e (now (room .entry)) q) (now (room .entry))) ⌝ }
+    count: &mut u64,
+) -> u64
+    ensures { λ n.
+        let q = secretStep (classicalOf given «x_count») (now (x .entry)) (kemOf (decoded (now (ex .entry)) .method) kem) (now (digest .entry)) (now (ks .entry)) (now (s .entry)) in
+        ⌜ left n (now (count .exit) ∷ []) (now (ex .exit)) (now (room .exit)) [] ≡ lentCall (now (ex .entry)) (now (room .entry)) q [] ⌝ }
 {
-    on_record::take_secret(r, room, given, x_count, x, kem, digest, ks, s)
+    lent::take_secret(ex, room, given, x_count, x, kem, digest, ks, s, count)
 }
 
-// Server, the signature.
+// Server, the signature. Told: REPLY's count and K's.
 #[no_mangle]
 pub extern "C" fn castulfrisa_sign(
-    r: Record,
+    ex: &mut [u8],
     room: &[u8],
     signature: &[u8],
     out: &mut [u8],
     k_out: &mut [u8],
-) -> Answer
-    ensures { λ a.
-        let e = openedOf r .exchange in
+    counts: &mut [u64; 2],
+) -> u64
+    ensures { λ n.
         let q = signStep (now (signature .entry)) (length (now (out .entry))) (length (now («k_out» .entry))) in
-        ⌜ (a ≡ exported r (answered e (now (room .entry)) q)) × (now (out .exit) ≡ bufferBy r (outputAfter (number e (now (room .entry)) q) (now (out .entry)) (replyOf e (now (room .entry)) (now (signature .entry)))) (now (out .entry))) × (now («k_out» .exit) ≡ bufferBy r (outputAfter (number e (now (room .entry)) q) (now («k_out» .entry)) (e .k)) (now («k_out» .entry))) ⌝ }
+        ⌜ left n (now (counts .exit)) (now (ex .exit)) (now (room .entry)) (now (out .exit) ∷ now («k_out» .exit) ∷ []) ≡ lentCall (now (ex .entry)) (now (room .entry)) q (now (out .entry) ∷ now («k_out» .entry) ∷ []) ⌝ }
 {
-    on_record::sign(r, room, signature, out, k_out)
+    lent::sign(ex, room, signature, out, k_out, counts)
 }
 
-// Client, the verdict.
+// Client, the verdict. Told: K's count.
 #[no_mangle]
 pub extern "C" fn castulfrisa_verdict(
-    r: Record,
+    ex: &mut [u8],
     room: &mut [u8],
-    signature: bool,
-    host_key: bool,
+    signature: u64,
+    host_key: u64,
     k_out: &mut [u8],
-) -> Answer
-    ensures { λ a.
-        let e = openedOf r .exchange in
-        let q = verdictStep signature «host_key» (length (now («k_out» .entry))) in
-        ⌜ (a ≡ exported r (answered e (now (room .entry)) q)) × (now (room .exit) ≡ bufferBy r (roomAfter e (now (room .entry)) q) (now (room .entry))) × (now («k_out» .exit) ≡ bufferBy r (outputAfter (number e (now (room .entry)) q) (now («k_out» .entry)) (e .k)) (now («k_out» .entry))) ⌝ }
+    count: &mut u64,
+) -> u64
+    ensures { λ n.
+        let q = verdictStep (isYes signature) (isYes «host_key») (length (now («k_out» .entry))) in
+        ⌜ left n (now (count .exit) ∷ []) (now (ex .exit)) (now (room .exit)) (now («k_out» .exit) ∷ []) ≡ lentCall (now (ex .entry)) (now (room .entry)) q (now («k_out» .entry) ∷ []) ⌝ }
 {
-    on_record::verdict(r, room, signature, host_key, k_out)
+    lent::verdict(ex, room, signature, host_key, k_out, count)
 }
 
-// ---- parts of INIT and REPLY, by a call that is no step
+// ---- calls on an exchange that are no steps: they tell, and change nothing
 
-// The place of C in an INIT that the step would accept; empty for every refusal.
+// The number that INIT's step would answer, and C's place.
 #[no_mangle]
-pub extern "C" fn castulfrisa_init_c(r: Record, room: &[u8], payload: &[u8]) -> Part
-    ensures { λ p. ⌜ p ≡ partBy r (stepPart (openedOf r .exchange) (now (room .entry)) (init (now (payload .entry))) (now (payload .entry)) 0) ⌝ }
+pub extern "C" fn castulfrisa_init_c(
+    ex: &[u8],
+    room: &[u8],
+    payload: &[u8],
+    place: &mut [u64; 2],
+) -> u64
+    ensures { λ n.
+        let b = now (ex .entry) in
+        let q = init (now (payload .entry)) in
+        ⌜ (n ≡ byFit b (number (decoded b) (now (room .entry)) q) 1) × (now (place .exit) ≡ byFit b (placeOf (stepPart (decoded b) (now (room .entry)) q (now (payload .entry)) 0)) (zeros 2)) ⌝ }
 {
-    on_record::init_part(r, room, payload, 0)
+    lent::init_part(ex, room, payload, 0, place)
 }
 
-// The place of K_S in a REPLY, likewise.
+// The number that REPLY's step would answer, and the place of K_S.
 #[no_mangle]
-pub extern "C" fn castulfrisa_reply_host_key(r: Record, room: &[u8], payload: &[u8]) -> Part
-    ensures { λ p. ⌜ p ≡ partBy r (stepPart (openedOf r .exchange) (now (room .entry)) (reply (now (payload .entry))) (now (payload .entry)) 0) ⌝ }
+pub extern "C" fn castulfrisa_reply_host_key(
+    ex: &[u8],
+    room: &[u8],
+    payload: &[u8],
+    place: &mut [u64; 2],
+) -> u64
+    ensures { λ n.
+        let b = now (ex .entry) in
+        let q = reply (now (payload .entry)) in
+        ⌜ (n ≡ byFit b (number (decoded b) (now (room .entry)) q) 1) × (now (place .exit) ≡ byFit b (placeOf (stepPart (decoded b) (now (room .entry)) q (now (payload .entry)) 0)) (zeros 2)) ⌝ }
 {
-    on_record::reply_part(r, room, payload, 0)
+    lent::reply_part(ex, room, payload, 0, place)
 }
 
-// The place of S in a REPLY, likewise.
+// Likewise, and the place of S.
 #[no_mangle]
-pub extern "C" fn castulfrisa_reply_s(r: Record, room: &[u8], payload: &[u8]) -> Part
-    ensures { λ p. ⌜ p ≡ partBy r (stepPart (openedOf r .exchange) (now (room .entry)) (reply (now (payload .entry))) (now (payload .entry)) 1) ⌝ }
+pub extern "C" fn castulfrisa_reply_s(
+    ex: &[u8],
+    room: &[u8],
+    payload: &[u8],
+    place: &mut [u64; 2],
+) -> u64
+    ensures { λ n.
+        let b = now (ex .entry) in
+        let q = reply (now (payload .entry)) in
+        ⌜ (n ≡ byFit b (number (decoded b) (now (room .entry)) q) 1) × (now (place .exit) ≡ byFit b (placeOf (stepPart (decoded b) (now (room .entry)) q (now (payload .entry)) 1)) (zeros 2)) ⌝ }
 {
-    on_record::reply_part(r, room, payload, 1)
+    lent::reply_part(ex, room, payload, 1, place)
 }
 
-// The place of the signature in a REPLY, likewise.
+// Likewise, and the place of the signature.
 #[no_mangle]
-pub extern "C" fn castulfrisa_reply_signature(r: Record, room: &[u8], payload: &[u8]) -> Part
-    ensures { λ p. ⌜ p ≡ partBy r (stepPart (openedOf r .exchange) (now (room .entry)) (reply (now (payload .entry))) (now (payload .entry)) 2) ⌝ }
+pub extern "C" fn castulfrisa_reply_signature(
+    ex: &[u8],
+    room: &[u8],
+    payload: &[u8],
+    place: &mut [u64; 2],
+) -> u64
+    ensures { λ n.
+        let b = now (ex .entry) in
+        let q = reply (now (payload .entry)) in
+        ⌜ (n ≡ byFit b (number (decoded b) (now (room .entry)) q) 1) × (now (place .exit) ≡ byFit b (placeOf (stepPart (decoded b) (now (room .entry)) q (now (payload .entry)) 2)) (zeros 2)) ⌝ }
 {
-    on_record::reply_part(r, room, payload, 2)
+    lent::reply_part(ex, room, payload, 2, place)
+}
+
+// How far an exchange has come. Told: its stage, the number that ended it, its role and its method.
+#[no_mangle]
+pub extern "C" fn castulfrisa_state(ex: &[u8], told: &mut [u64; 4]) -> u64
+    ensures { λ n.
+        let b = now (ex .entry) in
+        let e = decoded b in
+        ⌜ (n ≡ byFit b 0 1) × (now (told .exit) ≡ byFit b (stageNumber (e .stage) ∷ failNumber (e .stage) ∷ e .role ∷ e .method ∷ []) (zeros 4)) ⌝ }
+{
+    lent::state(ex, told)
+}
+
+// ---- the host's own
+
+// Fills a buffer with zeros.
+#[no_mangle]
+pub extern "C" fn castulfrisa_wipe(b: &mut [u8])
+    ensures { λ _. ⌜ now (b .exit) ≡ zeros (length (now (b .entry))) ⌝ }
+{
+    transcript::wipe(b)
+}
+
+// The library's version, which the header repeats.
+#[no_mangle]
+pub extern "C" fn castulfrisa_version() -> u64
+    ensures { λ n. ⌜ n ≡ libraryVersion ⌝ }
+{
+    limits::LIBRARY_VERSION
 }

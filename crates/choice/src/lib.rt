@@ -11,7 +11,6 @@ ghost use Rattle.choice.specs.Choice.{payloadCause, judgedHead, choiceRe
 
 // What a choice hands back: 0 with the method, the host key name's place in the client's payload, and whether each side's next
 // packet is to be ignored; or the number of a refusal and none of them.
-#[repr(C)]
 pub struct Choice {
     pub number: u8,
     pub method: u8,

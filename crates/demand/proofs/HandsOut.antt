@@ -19,7 +19,7 @@ use Rattle.demand.specs.HandedOut.{SecretHandsOut, SignHandsOut, Verdict
 use Rattle.demand.proofs.Holds.{AsDefined, runs}
 
 -- exchange and room follow the book
-followed-there : (role m : ℕ) (vc vs ic is room₀ : List ℕ) (b₀ : Book) (calls : List Call) (numbers : List ℕ) (e : Exchange) (room : List ℕ)
+pub followed-there : (role m : ℕ) (vc vs ic is room₀ : List ℕ) (b₀ : Book) (calls : List Call) (numbers : List ℕ) (e : Exchange) (room : List ℕ)
     → b₀ ≡ opened role m vc vs ic is → startCause role m vc vs ic is (length room₀) ≡ 0
     → AsDefined (started role m vc vs ic is (length room₀) .exchange) (startedRoom role m vc vs ic is room₀) calls numbers e room
     → (roomLeast ≤ length room₀) × Sim room₀ (lastBook (length room₀) b₀ calls) e room

@@ -72,7 +72,7 @@ runs (start-then {calls} {numbers} {e} {room} κs a r s t z h) =
       run = rw (x, u) at (as-defined h);
     }
 
-held-there : (role m : ℕ) (vc vs ic is room₀ : List ℕ) (b₀ : Book) (calls : List Call) (numbers : List ℕ) (e : Exchange) (room : List ℕ)
+pub held-there : (role m : ℕ) (vc vs ic is room₀ : List ℕ) (b₀ : Book) (calls : List Call) (numbers : List ℕ) (e : Exchange) (room : List ℕ)
     → b₀ ≡ opened role m vc vs ic is → startCause role m vc vs ic is (length room₀) ≡ 0
     → AsDefined (started role m vc vs ic is (length room₀) .exchange) (startedRoom role m vc vs ic is room₀) calls numbers e room
     → Held b₀ room₀ calls numbers e room

@@ -20,7 +20,6 @@ pub enum Stage {
 }
 
 // The lengths of the fields in the room; 0 where a field is not there.
-#[repr(C)]
 pub struct Lengths {
     pub vc: usize,
     pub vs: usize,

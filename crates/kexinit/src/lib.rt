@@ -22,7 +22,6 @@ const KEXINIT: Layout = Layout {
 };
 
 // A payload judged whole: 0 with its cookie, boolean and reserved number, or 4 or 10 to 13 and none of them.
-#[repr(C)]
 pub struct Head {
     pub number: u8,
     pub cookie: Part,
@@ -31,7 +30,6 @@ pub struct Head {
 }
 
 // A payload opened for one list, with a cursor at the list's beginning. A refusal's cursor yields only the end.
-#[repr(C)]
 pub struct Opened {
     pub head: Head,
     pub cursor: Cursor,

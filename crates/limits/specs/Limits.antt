@@ -36,6 +36,18 @@ listCount = 10
 abbrev pub kSize : ℕ
 kSize = 71
 
+-- an exchange as it is lent at the boundary: the mark of its layout, stage, fail number, role and method, seven lengths of two bytes, K
+abbrev pub exchangeSize : ℕ
+exchangeSize = 90
+
+-- the mark: another layout takes another
+abbrev pub exchangeMark : ℕ
+exchangeMark = 1
+
+-- the boundary's own number, which the header repeats
+abbrev pub libraryVersion : ℕ
+libraryVersion = 2
+
 -- the room, document 01's word for the buffer that is lent for the hash input: at least 32 + 506 + 8,192 + 2,048 + 3,330 + 48 bytes
 abbrev pub roomLeast : ℕ
 roomLeast = 14156

@@ -29,6 +29,15 @@ pub const LIST_COUNT: usize = 10;
 // The K record, and the least output for K.
 pub const K_SIZE: usize = 71;
 
+// An exchange as it is lent at the boundary: the mark of its layout, stage, fail number, role and method, seven lengths of two bytes, K.
+pub const EXCHANGE_SIZE: usize = 90;
+
+// The mark: another layout takes another, so that bytes of an older library, and bytes that were wiped, are no exchange's.
+pub const EXCHANGE_MARK: u8 = 1;
+
+// The boundary's own number, which the header repeats: it goes up by one where an entry or a size changes.
+pub const LIBRARY_VERSION: u64 = 2;
+
 // The least room that may be lent: 32 + 506 + 8,192 + 2,048 + 3,330 + 48 bytes.
 pub const ROOM_LEAST: usize = 14156;
 

@@ -10,7 +10,6 @@ ghost use Rattle.writers.specs.Writers.{wrote, leaves, stringCause};
 ghost use Rattle.mpint.specs.Mpint.{excess, shortest, signOf, readMpint, mpint};
 
 // The mpint at the front of an input: 0 with its sign, its body and what follows it, or 12 or 22.
-#[repr(C)]
 pub struct MpintRead {
     pub number: u8,
     pub sign: i8,

@@ -8,7 +8,6 @@ ghost use Rattle.names.specs.Cursor.{nextName, namesCause};
 
 // A place in a list: the next name begins at `at`, and the list ends at `end`. Behind the last name `at` is past `end`, so that the
 // empty name after a trailing comma is still ahead.
-#[repr(C)]
 pub struct Cursor {
     pub at: usize,
     pub end: usize,
@@ -16,7 +15,6 @@ pub struct Cursor {
 
 // What a cursor finds: 0 with a name's place and the cursor behind it; at the end 0 and the same cursor; at a bad name 19
 // and the same cursor.
-#[repr(C)]
 pub struct Next {
     pub number: u8,
     pub found: bool,

@@ -5,15 +5,29 @@ use wire::Part;
 ghost use mathlib.Core.Path.{_≡_};
 ghost use denote.Ref.{ptr};
 ghost use Rattle.wire.specs.Parts.{bytesAt, placeAt};
-ghost use Rattle.exchange.specs.Steps.{init, reply, stepPart};
+ghost use Rattle.exchange.specs.Steps.{init, reply, number, stepPart};
+
+// The number that INIT's step would answer.
+pub fn init_number(e: Exchange, room: &[u8], payload: &[u8]) -> u8
+    ensures { λ r. ⌜ r ≡ number e (now (room .entry)) (init (now (payload .entry))) ⌝ }
+{
+    let fed = judge_peer::init_cause(e.method, payload);
+    due::step_number(2, e, room.len(), fed)
+}
+
+// The number that REPLY's step would answer.
+pub fn reply_number(e: Exchange, room: &[u8], payload: &[u8]) -> u8
+    ensures { λ r. ⌜ r ≡ number e (now (room .entry)) (reply (now (payload .entry))) ⌝ }
+{
+    let fed = judge_peer::reply_cause(e.method, payload);
+    due::step_number(3, e, room.len(), fed)
+}
 
 // The place of string i of an INIT that the step would accept; the empty part for every refusal.
 pub fn init_part(e: Exchange, room: &[u8], payload: &[u8], i: usize) -> Part
     ensures { λ r. ⌜ r ≡ stepPart e (now (room .entry)) (init (now (payload .entry))) (now (payload .entry)) i ⌝ }
 {
-    let fed = judge_peer::init_cause(e.method, payload);
-    let n = due::step_number(2, e, room.len(), fed);
-    if n != 0 {
+    if init_number(e, room, payload) != 0 {
         return Part { start: 0, len: 0 };
     }
     wire::string_part(payload, 1, i)
@@ -23,9 +37,7 @@ pub fn init_part(e: Exchange, room: &[u8], payload: &[u8], i: usize) -> Part
 pub fn reply_part(e: Exchange, room: &[u8], payload: &[u8], i: usize) -> Part
     ensures { λ r. ⌜ r ≡ stepPart e (now (room .entry)) (reply (now (payload .entry))) (now (payload .entry)) i ⌝ }
 {
-    let fed = judge_peer::reply_cause(e.method, payload);
-    let n = due::step_number(3, e, room.len(), fed);
-    if n != 0 {
+    if reply_number(e, room, payload) != 0 {
         return Part { start: 0, len: 0 };
     }
     wire::string_part(payload, 1, i)

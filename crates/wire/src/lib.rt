@@ -7,7 +7,6 @@ ghost use Rattle.wire.specs.Parts.{inside, bytesAt, placeAt};
 ghost use Rattle.wire.specs.Strings.{numberAt, fieldAt, walk, stringPart, readString};
 
 // The place of a part in an input, counted from the input's first byte. A refusal's parts are empty, at 0.
-#[repr(C)]
 pub struct Part {
     pub start: usize,
     pub len: usize,
@@ -27,7 +26,6 @@ pub struct Walk {
 }
 
 // The string at the front of an input: 0 with its body and what follows it, or 12.
-#[repr(C)]
 pub struct StringRead {
     pub number: u8,
     pub body: Part,

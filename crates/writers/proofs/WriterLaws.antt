@@ -1,6 +1,6 @@
 -- Laws of `specs/Writers.antt`: what a writer owes at each of its returns, given its first cause. Assumes nothing.
 use Prim.Native.Nat.{ℕ, _+_, _≤_, _<_}
-use mathlib.Core.Path.{_≡_, _∙_}
+use mathlib.Core.Path.{_≡_, sym, _∙_}
 use mathlib.Core.List.{List}
 use mathlib.Core.Bool.{false}
 use native.Mathlib.Omega.{arith}
@@ -29,6 +29,16 @@ module _ (cause : ℕ) (b out : List ℕ) where
       → (_≡_ {A = Written} (record { number = 0; count = n }) (wrote cause b)) × (left ≡ leaves cause b out)
   unfolding wrote leaves
   writer-done n left e m l = (rw (e, m), rw e l)
+
+  -- the same where number and count are told apart
+  pub told-refused : (n : ℕ) → 0 < n → cause ≡ n → (n ≡ cause) × (0 ≡ wrote cause b .count) × (out ≡ leaves cause b out)
+  unfolding wrote leaves
+  told-refused n h e = let z : eqb cause 0 ≡ false = ne-eqb cause 0 (λ q. omega arith) in (sym e, rw z, rw z)
+
+  pub told-done : (n : ℕ) (left : List ℕ) → cause ≡ 0 → n ≡ length b → left ≡ onto out b
+      → (0 ≡ cause) × (n ≡ wrote cause b .count) × (left ≡ leaves cause b out)
+  unfolding wrote leaves
+  told-done n left e m l = (sym e, rw e m, rw e l)
 
 -- the front of what a writer leaves is what it wrote
 pub writer-front : (cause : ℕ) (b out : List ℕ) → cause ≡ 0 → front cause b out ≡ b

@@ -6,7 +6,6 @@ ghost use Rattle.wire.specs.Strings.{bytes32, string};
 ghost use Rattle.writers.specs.Writers.{wrote, leaves, stringCause};
 
 // What a writer answers: 0 and the bytes written, or the number of a refusal and 0.
-#[repr(C)]
 pub struct Written {
     pub number: u8,
     pub count: usize,

@@ -1,26 +1,16 @@
-//! A client and a server complete an exchange with each other in every method. The primitives are stand-ins with fixed outputs: both
-//! sides get the same X and digest, and the signature is 64 fixed bytes. A real host puts its own in their place.
-use castulfrisa::{choose, method_sizes, write_kexinit, Classical, Exchange, Kem, Own, Refusal, Role, INIT, K, REPLY, ROOM};
-
-const NAMES: [&[u8]; 9] = [
-    b"curve25519-sha256",
-    b"curve25519-sha256@libssh.org",
-    b"curve448-sha512",
-    b"ecdh-sha2-nistp256",
-    b"ecdh-sha2-nistp384",
-    b"ecdh-sha2-nistp521",
-    b"mlkem768nistp256-sha256",
-    b"mlkem1024nistp384-sha384",
-    b"mlkem768x25519-sha256",
-];
+//! A client and a server complete an exchange with each other in every method. The primitives are stand-ins with fixed outputs:
+//! both sides get the same X and digest, and the signature is 64 fixed bytes. A real host puts its own in their place.
+use castulfrisa::{choose, same_version, wipe_stack, write_kexinit};
+use castulfrisa::{Classical, Client, Greeting, Kem, Method, Own, Refusal, Server, K, EXCHANGE, INIT, KEXINIT_MOST, REPLY, ROOM};
 
 fn exchange(name: &[u8]) -> Result<usize, Refusal> {
-    let (mut ic, mut is) = ([0; 4096], [0; 4096]);
-    let lists: [&[u8]; 10] = [name, b"ssh-ed25519", b"aes256-ctr", b"aes256-ctr", b"hmac-sha2-256", b"hmac-sha2-256", b"none", b"none", b"", b""];
+    let (mut ic, mut is) = ([0; KEXINIT_MOST], [0; KEXINIT_MOST]);
+    let (cipher, mac) = (b"aes256-ctr", b"hmac-sha2-256");
+    let lists: [&[u8]; 10] = [name, b"ssh-ed25519", cipher, cipher, mac, mac, b"none", b"none", b"", b""];
     let ic_len = write_kexinit(&mut ic, b"client's  cookie", &lists, false, 0)?;
     let is_len = write_kexinit(&mut is, b"server's  cookie", &lists, false, 0)?;
     let choice = choose(&ic[..ic_len], &is[..is_len])?;
-    let sizes = method_sizes(choice.method).ok_or(Refusal::NoMethod)?;
+    let sizes = choice.method.sizes();
 
     // the primitives' outputs: a NIST point begins with 4
     let (mut c, mut s) = (vec![4; sizes.c_len], vec![4; sizes.s_len]);
@@ -30,35 +20,48 @@ fn exchange(name: &[u8]) -> Result<usize, Refusal> {
     let (kem, digest) = if sizes.hybrid { (Kem::Done, vec![0xd1; sizes.digest_len]) } else { (Kem::Absent, Vec::new()) };
     let (host_key, signature) = ([0x4b; 51], [0x77; 64]);
 
-    let versions = (&b"SSH-2.0-client"[..], &b"SSH-2.0-server"[..]);
-    let (mut client_room, mut server_room) = ([0; ROOM], [0; ROOM]);
-    let mut client = Exchange::start(Role::Client, choice.method, versions, (&ic[..ic_len], &is[..is_len]), &mut client_room)?;
-    let mut server = Exchange::start(Role::Server, choice.method, versions, (&ic[..ic_len], &is[..is_len]), &mut server_room)?;
+    let greeting = Greeting { vc: b"SSH-2.0-client", vs: b"SSH-2.0-server", ic: &ic[..ic_len], is: &is[..is_len] };
+    let (mut client_exchange, mut client_room) = ([0; EXCHANGE], [0; ROOM]);
+    let (mut server_exchange, mut server_room) = ([0; EXCHANGE], [0; ROOM]);
+    let client = Client::start(choice.method, greeting, &mut client_exchange, &mut client_room)?;
+    let server = Server::start(choice.method, greeting, &mut server_exchange, &mut server_room)?;
 
     let (mut init, mut reply) = ([0; INIT], [0; REPLY]);
-    let (mut client_k, mut server_k) = ([0; K], [0; K]);
-    let n = client.own_c(&c, &mut init)?;
-    assert_eq!(server.read_init(&init[..n])?, c);
-    let hashed = server.take_secret(Classical::Given(&x), kem, &digest, Own { host_key: &host_key, s: &s })?.len();
-    let (n, k_len) = server.sign(&signature, &mut reply, &mut server_k)?;
-    let r = client.read_reply(&reply[..n])?;
-    assert_eq!((r.host_key, r.s, r.signature), (&host_key[..], &s[..], &signature[..]));
-    client.take_secret(Classical::Given(&x), kem, &digest, Own::default())?;
+    let (mut client_k, mut server_k) = (K::new(), K::new());
+    let (client, init) = client.own_c(&c, &mut init)?;
+
+    let (server, c_read) = server.read_init(init)?;
+    assert_eq!(c_read, c);
+    let server = server.take_secret(Classical::Given(&x), kem, &digest, Own { host_key: &host_key, s: &s })?;
+    let (server, reply) = server.sign(&signature, &mut reply, &mut server_k)?;
+
+    let (client, read) = client.read_reply(reply)?;
+    assert_eq!((read.host_key, read.s, read.signature), (&host_key[..], &s[..], &signature[..]));
+    let client = client.take_secret(Classical::Given(&x), kem, &digest)?;
+    let client = client.verdict(true, true, &mut client_k)?;
+
     assert_eq!(client.hash_input(), server.hash_input());
-    assert_eq!(client.verdict(true, true, &mut client_k)?, k_len);
-    assert_eq!(client_k, server_k);
-    assert!(client.is_complete() && server.is_complete());
-    // and nothing more is due
-    assert_eq!(client.own_c(&c, &mut init), Err(Refusal::NotDue));
+    assert_eq!(client_k.as_bytes(), server_k.as_bytes());
+    assert!(client.hash_input().ends_with(client_k.as_bytes()));
+    let hashed = client.hash_input().len();
+    // the keys would be derived here: then nothing of K stays, neither in what was lent nor on the stack
+    drop((client, server, client_k, server_k));
+    wipe_stack();
+    assert!(client_exchange.iter().chain(&client_room).chain(&server_exchange).chain(&server_room).all(|byte| *byte == 0));
     Ok(hashed)
 }
 
 fn main() {
-    for (i, name) in NAMES.iter().enumerate() {
-        match exchange(name) {
-            Ok(hashed) => println!("method {}: complete, {} bytes to hash", i + 1, hashed),
+    if !same_version() {
+        eprintln!("the library is of another version than this crate");
+        std::process::exit(1);
+    }
+    for method in Method::ALL {
+        let name = method.name();
+        match exchange(&name) {
+            Ok(hashed) => println!("method {}, {}: complete, {} bytes to hash", method.number(), name, hashed),
             Err(refusal) => {
-                eprintln!("method {}: {}", i + 1, refusal);
+                eprintln!("method {}, {}: {}", method.number(), name, refusal);
                 std::process::exit(1);
             }
         }

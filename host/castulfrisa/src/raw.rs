@@ -1,337 +1,400 @@
-//! The boundary one to one: each entry of `include/castulfrisa.h` as a safe function on slices. What crosses are the header's structs.
+//! The boundary one to one: each entry of `include/castulfrisa.h` as a safe function on slices and on the header's runs of 64-bit
+//! numbers. A call returns its number; an exchange is any slice, so that one of a wrong length can be lent too.
 //!
-//! Safe because the library asks nothing of its caller but what references have by themselves: slices that are valid and live, and
-//! that share no byte where one of them is written. A `bool` that comes back is 0 or 1: the library is proved to answer so.
+//! Safe because the library asks nothing of its caller but what references have by themselves: memory that is valid, live and
+//! aligned, and that shares no byte where it is written.
 
 /// A place in the payload that was handed in; `0, 0` for a refusal.
 #[repr(C)]
 #[derive(Clone, Copy, Debug, Default, PartialEq, Eq)]
 pub struct Part {
-    pub start: usize,
-    pub len: usize,
+    pub start: u64,
+    pub len: u64,
 }
 
+/// A string's or mpint's body, and the rest behind it.
 #[repr(C)]
 #[derive(Clone, Copy, Debug, Default, PartialEq, Eq)]
-pub struct StringRead {
-    pub number: u8,
+pub struct StringParts {
     pub body: Part,
     pub rest: Part,
 }
 
-#[repr(C)]
-#[derive(Clone, Copy, Debug, Default, PartialEq, Eq)]
-pub struct MpintRead {
-    pub number: u8,
-    pub sign: i8,
-    pub body: Part,
-    pub rest: Part,
-}
-
-#[repr(C)]
-#[derive(Clone, Copy, Debug, Default, PartialEq, Eq)]
-pub struct Written {
-    pub number: u8,
-    pub count: usize,
-}
-
-/// A method's sizes; all 0 for a number that is none.
+/// A method's sizes; the last two are 1 or 0.
 #[repr(C)]
 #[derive(Clone, Copy, Debug, Default, PartialEq, Eq)]
 pub struct Sizes {
-    pub c_len: usize,
-    pub c_classical: usize,
-    pub s_len: usize,
-    pub s_classical: usize,
-    pub x_len: usize,
-    pub digest_len: usize,
-    pub hybrid: bool,
-    pub zero_check: bool,
+    pub c_len: u64,
+    pub c_classical: u64,
+    pub s_len: u64,
+    pub s_classical: u64,
+    pub x_len: u64,
+    pub digest_len: u64,
+    pub hybrid: u64,
+    pub zero_check: u64,
 }
 
 /// A place in a list, as `open_list` makes it. Any other numbers are answered too.
 #[repr(C)]
 #[derive(Clone, Copy, Debug, Default, PartialEq, Eq)]
 pub struct Cursor {
-    pub at: usize,
-    pub end: usize,
-}
-
-#[repr(C)]
-#[derive(Clone, Copy, Debug, Default, PartialEq, Eq)]
-pub struct Next {
-    pub number: u8,
-    pub found: bool,
-    pub name: Part,
-    pub cursor: Cursor,
+    pub at: u64,
+    pub end: u64,
 }
 
 #[repr(C)]
 #[derive(Clone, Copy, Debug, Default, PartialEq, Eq)]
 pub struct Opened {
-    pub number: u8,
     pub cookie: Part,
-    pub follows: bool,
-    pub reserved: u32,
+    pub follows: u64,
+    pub reserved: u64,
     pub cursor: Cursor,
+}
+
+/// The bytes of a KEXINIT that was written, and the first bad list, 1 to 10, or 0.
+#[repr(C)]
+#[derive(Clone, Copy, Debug, Default, PartialEq, Eq)]
+pub struct Proposed {
+    pub count: u64,
+    pub bad_list: u64,
 }
 
 #[repr(C)]
 #[derive(Clone, Copy, Debug, Default, PartialEq, Eq)]
 pub struct Choice {
-    pub number: u8,
-    pub method: u8,
+    pub method: u64,
     pub host_key: Part,
-    pub ignore_client: bool,
-    pub ignore_server: bool,
+    pub ignore_client: u64,
+    pub ignore_server: u64,
 }
 
-/// The lengths of the fields in the room; 0 where a field is missing.
 #[repr(C)]
 #[derive(Clone, Copy, Debug, Default, PartialEq, Eq)]
-pub struct Lengths {
-    pub vc: usize,
-    pub vs: usize,
-    pub ic: usize,
-    pub is: usize,
-    pub ks: usize,
-    pub c: usize,
-    pub s: usize,
+pub struct Reply {
+    pub host_key: Part,
+    pub s: Part,
+    pub signature: Part,
 }
 
-/// An exchange as numbers. A record that no exchange has is answered 1 and comes back as it was.
+/// The bytes of REPLY and of K.
 #[repr(C)]
-#[derive(Clone, Copy, Debug, PartialEq, Eq)]
-pub struct Record {
-    pub stage: u8,
-    pub fail: u8,
-    pub role: u8,
-    pub method: u8,
-    pub lens: Lengths,
-    pub k: [u8; 71],
+#[derive(Clone, Copy, Debug, Default, PartialEq, Eq)]
+pub struct Signed {
+    pub reply: u64,
+    pub k: u64,
 }
 
+/// How far an exchange has come, what ended it, its role and its method.
 #[repr(C)]
-#[derive(Clone, Copy, Debug, PartialEq, Eq)]
-pub struct Answer {
-    pub number: u8,
-    pub count: usize,
-    pub second: usize,
-    pub record: Record,
+#[derive(Clone, Copy, Debug, Default, PartialEq, Eq)]
+pub struct Told {
+    pub stage: u64,
+    pub fail: u64,
+    pub role: u64,
+    pub method: u64,
 }
 
-// A slice crosses as its pointer and its length; C's `size_t, const uint8_t *` pairs in the header's order.
+// A slice crosses as its pointer and its length: the header's pairs in the header's order.
 mod c {
     use super::*;
 
     extern "C" {
-        pub fn castulfrisa_read_string(s: *const u8, s_len: usize) -> StringRead;
-        pub fn castulfrisa_write_string(out: *mut u8, out_len: usize, body: *const u8, body_len: usize) -> Written;
-        pub fn castulfrisa_read_mpint(s: *const u8, s_len: usize) -> MpintRead;
-        pub fn castulfrisa_write_mpint(out: *mut u8, out_len: usize, bytes: *const u8, bytes_len: usize) -> Written;
-        pub fn castulfrisa_method_number(name: *const u8, name_len: usize) -> u8;
-        pub fn castulfrisa_method_sizes(method: u8) -> Sizes;
+        pub fn castulfrisa_read_string(s: *const u8, s_len: u64, parts: *mut StringParts) -> u64;
+        pub fn castulfrisa_write_string(out: *mut u8, out_len: u64, body: *const u8, body_len: u64, count: *mut u64) -> u64;
+        pub fn castulfrisa_read_mpint(s: *const u8, s_len: u64, sign: *mut i64, parts: *mut StringParts) -> u64;
+        pub fn castulfrisa_write_mpint(out: *mut u8, out_len: u64, bytes: *const u8, bytes_len: u64, count: *mut u64) -> u64;
+        pub fn castulfrisa_method_number(name: *const u8, name_len: u64) -> u64;
+        pub fn castulfrisa_method_name(method: u64, out: *mut u8, out_len: u64, count: *mut u64) -> u64;
+        pub fn castulfrisa_method_sizes(method: u64, sizes: *mut Sizes) -> u64;
         pub fn castulfrisa_write_kexinit(
-            out: *mut u8, out_len: usize,
-            cookie: *const u8, cookie_len: usize,
-            kex: *const u8, kex_len: usize,
-            host_key: *const u8, host_key_len: usize,
-            cipher_in: *const u8, cipher_in_len: usize,
-            cipher_out: *const u8, cipher_out_len: usize,
-            mac_in: *const u8, mac_in_len: usize,
-            mac_out: *const u8, mac_out_len: usize,
-            compression_in: *const u8, compression_in_len: usize,
-            compression_out: *const u8, compression_out_len: usize,
-            language_in: *const u8, language_in_len: usize,
-            language_out: *const u8, language_out_len: usize,
-            follows: bool, reserved: u32,
-        ) -> Written;
-        pub fn castulfrisa_open_list(payload: *const u8, payload_len: usize, list: usize) -> Opened;
-        pub fn castulfrisa_next_name(payload: *const u8, payload_len: usize, cursor: Cursor) -> Next;
-        pub fn castulfrisa_choose(client: *const u8, client_len: usize, server: *const u8, server_len: usize) -> Choice;
+            out: *mut u8, out_len: u64,
+            cookie: *const u8, cookie_len: u64,
+            lists: *const u8, lists_len: u64,
+            ends: *const u64,
+            follows: u64, reserved: u64,
+            told: *mut Proposed,
+        ) -> u64;
+        pub fn castulfrisa_open_list(payload: *const u8, payload_len: u64, list: u64, opened: *mut Opened) -> u64;
+        pub fn castulfrisa_next_name(payload: *const u8, payload_len: u64, cursor: *mut Cursor, name: *mut Part) -> u64;
+        pub fn castulfrisa_choose(
+            client: *const u8, client_len: u64, server: *const u8, server_len: u64, choice: *mut Choice,
+        ) -> u64;
         pub fn castulfrisa_start(
-            role: u8, method: u8,
-            vc: *const u8, vc_len: usize,
-            vs: *const u8, vs_len: usize,
-            ic: *const u8, ic_len: usize,
-            is: *const u8, is_len: usize,
-            room: *mut u8, room_len: usize,
-        ) -> Answer;
+            exchange: *mut u8, exchange_len: u64,
+            role: u64, method: u64,
+            vc: *const u8, vc_len: u64,
+            vs: *const u8, vs_len: u64,
+            ic: *const u8, ic_len: u64,
+            is: *const u8, is_len: u64,
+            room: *mut u8, room_len: u64,
+        ) -> u64;
         pub fn castulfrisa_own_c(
-            record: Record, room: *mut u8, room_len: usize, c: *const u8, c_len: usize, out: *mut u8, out_len: usize,
-        ) -> Answer;
-        pub fn castulfrisa_read_init(record: Record, room: *mut u8, room_len: usize, payload: *const u8, payload_len: usize) -> Answer;
-        pub fn castulfrisa_init_c(record: Record, room: *const u8, room_len: usize, payload: *const u8, payload_len: usize) -> Part;
-        pub fn castulfrisa_read_reply(record: Record, room: *mut u8, room_len: usize, payload: *const u8, payload_len: usize) -> Answer;
-        pub fn castulfrisa_reply_host_key(record: Record, room: *const u8, room_len: usize, payload: *const u8, payload_len: usize) -> Part;
-        pub fn castulfrisa_reply_s(record: Record, room: *const u8, room_len: usize, payload: *const u8, payload_len: usize) -> Part;
-        pub fn castulfrisa_reply_signature(record: Record, room: *const u8, room_len: usize, payload: *const u8, payload_len: usize) -> Part;
+            exchange: *mut u8, exchange_len: u64, room: *mut u8, room_len: u64,
+            c: *const u8, c_len: u64, out: *mut u8, out_len: u64, count: *mut u64,
+        ) -> u64;
+        pub fn castulfrisa_read_init(
+            exchange: *mut u8, exchange_len: u64, room: *mut u8, room_len: u64,
+            payload: *const u8, payload_len: u64, c: *mut Part,
+        ) -> u64;
+        pub fn castulfrisa_read_reply(
+            exchange: *mut u8, exchange_len: u64, room: *mut u8, room_len: u64,
+            payload: *const u8, payload_len: u64, parts: *mut Reply,
+        ) -> u64;
         pub fn castulfrisa_take_secret(
-            record: Record, room: *mut u8, room_len: usize,
-            given: bool, x_count: usize, x: *const u8, x_len: usize,
-            kem: u8,
-            digest: *const u8, digest_len: usize,
-            ks: *const u8, ks_len: usize,
-            s: *const u8, s_len: usize,
-        ) -> Answer;
+            exchange: *mut u8, exchange_len: u64, room: *mut u8, room_len: u64,
+            given: u64, x_count: u64, x: *const u8, x_len: u64,
+            kem: u64,
+            digest: *const u8, digest_len: u64,
+            ks: *const u8, ks_len: u64,
+            s: *const u8, s_len: u64,
+            count: *mut u64,
+        ) -> u64;
         pub fn castulfrisa_sign(
-            record: Record, room: *const u8, room_len: usize, signature: *const u8, signature_len: usize,
-            out: *mut u8, out_len: usize, k_out: *mut u8, k_out_len: usize,
-        ) -> Answer;
+            exchange: *mut u8, exchange_len: u64, room: *const u8, room_len: u64,
+            signature: *const u8, signature_len: u64,
+            out: *mut u8, out_len: u64, k_out: *mut u8, k_out_len: u64, counts: *mut Signed,
+        ) -> u64;
         pub fn castulfrisa_verdict(
-            record: Record, room: *mut u8, room_len: usize, signature: bool, host_key: bool, k_out: *mut u8, k_out_len: usize,
-        ) -> Answer;
+            exchange: *mut u8, exchange_len: u64, room: *mut u8, room_len: u64,
+            signature: u64, host_key: u64, k_out: *mut u8, k_out_len: u64, count: *mut u64,
+        ) -> u64;
+        pub fn castulfrisa_init_c(
+            exchange: *const u8, exchange_len: u64, room: *const u8, room_len: u64,
+            payload: *const u8, payload_len: u64, c: *mut Part,
+        ) -> u64;
+        pub fn castulfrisa_reply_host_key(
+            exchange: *const u8, exchange_len: u64, room: *const u8, room_len: u64,
+            payload: *const u8, payload_len: u64, host_key: *mut Part,
+        ) -> u64;
+        pub fn castulfrisa_reply_s(
+            exchange: *const u8, exchange_len: u64, room: *const u8, room_len: u64,
+            payload: *const u8, payload_len: u64, s: *mut Part,
+        ) -> u64;
+        pub fn castulfrisa_reply_signature(
+            exchange: *const u8, exchange_len: u64, room: *const u8, room_len: u64,
+            payload: *const u8, payload_len: u64, signature: *mut Part,
+        ) -> u64;
+        pub fn castulfrisa_state(exchange: *const u8, exchange_len: u64, told: *mut Told) -> u64;
+        pub fn castulfrisa_wipe(buffer: *mut u8, buffer_len: u64);
+        pub fn castulfrisa_version() -> u64;
     }
 }
 
+// ---- strings and mpints
+
 /// The string at the front of `s`.
-pub fn read_string(s: &[u8]) -> StringRead {
-    unsafe { c::castulfrisa_read_string(s.as_ptr(), s.len()) }
+pub fn read_string(s: &[u8], parts: &mut StringParts) -> u64 {
+    unsafe { c::castulfrisa_read_string(s.as_ptr(), s.len() as u64, parts) }
 }
 
 /// Writes `body` as a string at the beginning of `out`.
-pub fn write_string(out: &mut [u8], body: &[u8]) -> Written {
-    unsafe { c::castulfrisa_write_string(out.as_mut_ptr(), out.len(), body.as_ptr(), body.len()) }
+pub fn write_string(out: &mut [u8], body: &[u8], count: &mut u64) -> u64 {
+    unsafe { c::castulfrisa_write_string(out.as_mut_ptr(), out.len() as u64, body.as_ptr(), body.len() as u64, count) }
 }
 
 /// The mpint at the front of `s`.
-pub fn read_mpint(s: &[u8]) -> MpintRead {
-    unsafe { c::castulfrisa_read_mpint(s.as_ptr(), s.len()) }
+pub fn read_mpint(s: &[u8], sign: &mut i64, parts: &mut StringParts) -> u64 {
+    unsafe { c::castulfrisa_read_mpint(s.as_ptr(), s.len() as u64, sign, parts) }
 }
 
 /// Writes two's complement bytes as an mpint at the beginning of `out`.
-pub fn write_mpint(out: &mut [u8], bytes: &[u8]) -> Written {
-    unsafe { c::castulfrisa_write_mpint(out.as_mut_ptr(), out.len(), bytes.as_ptr(), bytes.len()) }
+pub fn write_mpint(out: &mut [u8], bytes: &[u8], count: &mut u64) -> u64 {
+    unsafe { c::castulfrisa_write_mpint(out.as_mut_ptr(), out.len() as u64, bytes.as_ptr(), bytes.len() as u64, count) }
 }
 
+// ---- methods
+
 /// The number of the method of this name; 0 with none.
-pub fn method_number(name: &[u8]) -> u8 {
-    unsafe { c::castulfrisa_method_number(name.as_ptr(), name.len()) }
+pub fn method_number(name: &[u8]) -> u64 {
+    unsafe { c::castulfrisa_method_number(name.as_ptr(), name.len() as u64) }
+}
+
+/// Writes the name of a method at the beginning of `out`.
+pub fn method_name(method: u64, out: &mut [u8], count: &mut u64) -> u64 {
+    unsafe { c::castulfrisa_method_name(method, out.as_mut_ptr(), out.len() as u64, count) }
 }
 
 /// The sizes of a method.
-pub fn method_sizes(method: u8) -> Sizes {
-    unsafe { c::castulfrisa_method_sizes(method) }
+pub fn method_sizes(method: u64, sizes: &mut Sizes) -> u64 {
+    unsafe { c::castulfrisa_method_sizes(method, sizes) }
 }
 
-/// Writes a KEXINIT at the beginning of `out`; the lists in the order of RFC 4253, section 7.1.
-pub fn write_kexinit(out: &mut [u8], cookie: &[u8], lists: &[&[u8]; 10], follows: bool, reserved: u32) -> Written {
-    let l = lists;
+// ---- KEXINIT
+
+/// Writes a KEXINIT at the beginning of `out`: the ten lists one behind another in `lists`, and where each of them ends.
+pub fn write_kexinit(
+    out: &mut [u8], cookie: &[u8], lists: &[u8], ends: &[u64; 10], follows: u64, reserved: u64, told: &mut Proposed,
+) -> u64 {
     unsafe {
         c::castulfrisa_write_kexinit(
-            out.as_mut_ptr(), out.len(),
-            cookie.as_ptr(), cookie.len(),
-            l[0].as_ptr(), l[0].len(),
-            l[1].as_ptr(), l[1].len(),
-            l[2].as_ptr(), l[2].len(),
-            l[3].as_ptr(), l[3].len(),
-            l[4].as_ptr(), l[4].len(),
-            l[5].as_ptr(), l[5].len(),
-            l[6].as_ptr(), l[6].len(),
-            l[7].as_ptr(), l[7].len(),
-            l[8].as_ptr(), l[8].len(),
-            l[9].as_ptr(), l[9].len(),
+            out.as_mut_ptr(), out.len() as u64,
+            cookie.as_ptr(), cookie.len() as u64,
+            lists.as_ptr(), lists.len() as u64,
+            ends.as_ptr(),
             follows, reserved,
+            told,
         )
     }
 }
 
 /// Opens a KEXINIT for one of its lists, 1 to 10.
-pub fn open_list(payload: &[u8], list: usize) -> Opened {
-    unsafe { c::castulfrisa_open_list(payload.as_ptr(), payload.len(), list) }
+pub fn open_list(payload: &[u8], list: u64, opened: &mut Opened) -> u64 {
+    unsafe { c::castulfrisa_open_list(payload.as_ptr(), payload.len() as u64, list, opened) }
 }
 
-/// The next name of a list.
-pub fn next_name(payload: &[u8], cursor: Cursor) -> Next {
-    unsafe { c::castulfrisa_next_name(payload.as_ptr(), payload.len(), cursor) }
+/// The next name of a list; one of no bytes at its end.
+pub fn next_name(payload: &[u8], cursor: &mut Cursor, name: &mut Part) -> u64 {
+    unsafe { c::castulfrisa_next_name(payload.as_ptr(), payload.len() as u64, cursor, name) }
 }
 
 /// The choice from a client's and a server's KEXINIT.
-pub fn choose(client: &[u8], server: &[u8]) -> Choice {
-    unsafe { c::castulfrisa_choose(client.as_ptr(), client.len(), server.as_ptr(), server.len()) }
+pub fn choose(client: &[u8], server: &[u8], choice: &mut Choice) -> u64 {
+    unsafe { c::castulfrisa_choose(client.as_ptr(), client.len() as u64, server.as_ptr(), server.len() as u64, choice) }
 }
 
+// ---- an exchange
+
 /// Starts an exchange in a room.
-pub fn start(role: u8, method: u8, vc: &[u8], vs: &[u8], ic: &[u8], is: &[u8], room: &mut [u8]) -> Answer {
+#[allow(clippy::too_many_arguments)]
+pub fn start(exchange: &mut [u8], role: u64, method: u64, vc: &[u8], vs: &[u8], ic: &[u8], is: &[u8], room: &mut [u8]) -> u64 {
     unsafe {
         c::castulfrisa_start(
+            exchange.as_mut_ptr(), exchange.len() as u64,
             role, method,
-            vc.as_ptr(), vc.len(),
-            vs.as_ptr(), vs.len(),
-            ic.as_ptr(), ic.len(),
-            is.as_ptr(), is.len(),
-            room.as_mut_ptr(), room.len(),
+            vc.as_ptr(), vc.len() as u64,
+            vs.as_ptr(), vs.len() as u64,
+            ic.as_ptr(), ic.len() as u64,
+            is.as_ptr(), is.len() as u64,
+            room.as_mut_ptr(), room.len() as u64,
         )
     }
 }
 
 /// Client: own C, INIT written.
-pub fn own_c(record: Record, room: &mut [u8], value: &[u8], out: &mut [u8]) -> Answer {
+pub fn own_c(exchange: &mut [u8], room: &mut [u8], value: &[u8], out: &mut [u8], count: &mut u64) -> u64 {
     unsafe {
-        c::castulfrisa_own_c(record, room.as_mut_ptr(), room.len(), value.as_ptr(), value.len(), out.as_mut_ptr(), out.len())
+        c::castulfrisa_own_c(
+            exchange.as_mut_ptr(), exchange.len() as u64, room.as_mut_ptr(), room.len() as u64,
+            value.as_ptr(), value.len() as u64, out.as_mut_ptr(), out.len() as u64, count,
+        )
     }
 }
 
 /// Server: INIT read.
-pub fn read_init(record: Record, room: &mut [u8], payload: &[u8]) -> Answer {
-    unsafe { c::castulfrisa_read_init(record, room.as_mut_ptr(), room.len(), payload.as_ptr(), payload.len()) }
-}
-
-/// C of an INIT that the step would accept.
-pub fn init_c(record: Record, room: &[u8], payload: &[u8]) -> Part {
-    unsafe { c::castulfrisa_init_c(record, room.as_ptr(), room.len(), payload.as_ptr(), payload.len()) }
+pub fn read_init(exchange: &mut [u8], room: &mut [u8], payload: &[u8], value: &mut Part) -> u64 {
+    unsafe {
+        c::castulfrisa_read_init(
+            exchange.as_mut_ptr(), exchange.len() as u64, room.as_mut_ptr(), room.len() as u64,
+            payload.as_ptr(), payload.len() as u64, value,
+        )
+    }
 }
 
 /// Client: REPLY read.
-pub fn read_reply(record: Record, room: &mut [u8], payload: &[u8]) -> Answer {
-    unsafe { c::castulfrisa_read_reply(record, room.as_mut_ptr(), room.len(), payload.as_ptr(), payload.len()) }
-}
-
-/// K_S of a REPLY that the step would accept.
-pub fn reply_host_key(record: Record, room: &[u8], payload: &[u8]) -> Part {
-    unsafe { c::castulfrisa_reply_host_key(record, room.as_ptr(), room.len(), payload.as_ptr(), payload.len()) }
-}
-
-/// S of such a REPLY.
-pub fn reply_s(record: Record, room: &[u8], payload: &[u8]) -> Part {
-    unsafe { c::castulfrisa_reply_s(record, room.as_ptr(), room.len(), payload.as_ptr(), payload.len()) }
-}
-
-/// The signature of such a REPLY.
-pub fn reply_signature(record: Record, room: &[u8], payload: &[u8]) -> Part {
-    unsafe { c::castulfrisa_reply_signature(record, room.as_ptr(), room.len(), payload.as_ptr(), payload.len()) }
+pub fn read_reply(exchange: &mut [u8], room: &mut [u8], payload: &[u8], parts: &mut Reply) -> u64 {
+    unsafe {
+        c::castulfrisa_read_reply(
+            exchange.as_mut_ptr(), exchange.len() as u64, room.as_mut_ptr(), room.len() as u64,
+            payload.as_ptr(), payload.len() as u64, parts,
+        )
+    }
 }
 
 /// Both roles: what the primitives gave.
 #[allow(clippy::too_many_arguments)]
 pub fn take_secret(
-    record: Record, room: &mut [u8], given: bool, x_count: usize, x: &[u8], kem: u8, digest: &[u8], ks: &[u8], s: &[u8],
-) -> Answer {
+    exchange: &mut [u8], room: &mut [u8], given: u64, x_count: u64, x: &[u8], kem: u64, digest: &[u8], ks: &[u8], s: &[u8],
+    count: &mut u64,
+) -> u64 {
     unsafe {
         c::castulfrisa_take_secret(
-            record, room.as_mut_ptr(), room.len(),
-            given, x_count, x.as_ptr(), x.len(),
+            exchange.as_mut_ptr(), exchange.len() as u64, room.as_mut_ptr(), room.len() as u64,
+            given, x_count, x.as_ptr(), x.len() as u64,
             kem,
-            digest.as_ptr(), digest.len(),
-            ks.as_ptr(), ks.len(),
-            s.as_ptr(), s.len(),
+            digest.as_ptr(), digest.len() as u64,
+            ks.as_ptr(), ks.len() as u64,
+            s.as_ptr(), s.len() as u64,
+            count,
         )
     }
 }
 
 /// Server, last: the signature; REPLY and K written.
-pub fn sign(record: Record, room: &[u8], signature: &[u8], out: &mut [u8], k_out: &mut [u8]) -> Answer {
+pub fn sign(exchange: &mut [u8], room: &[u8], signature: &[u8], out: &mut [u8], k_out: &mut [u8], counts: &mut Signed) -> u64 {
     unsafe {
         c::castulfrisa_sign(
-            record, room.as_ptr(), room.len(), signature.as_ptr(), signature.len(),
-            out.as_mut_ptr(), out.len(), k_out.as_mut_ptr(), k_out.len(),
+            exchange.as_mut_ptr(), exchange.len() as u64, room.as_ptr(), room.len() as u64,
+            signature.as_ptr(), signature.len() as u64,
+            out.as_mut_ptr(), out.len() as u64, k_out.as_mut_ptr(), k_out.len() as u64, counts,
         )
     }
 }
 
 /// Client, last: the verdict; K written.
-pub fn verdict(record: Record, room: &mut [u8], signature: bool, host_key: bool, k_out: &mut [u8]) -> Answer {
+pub fn verdict(exchange: &mut [u8], room: &mut [u8], signature: u64, host_key: u64, k_out: &mut [u8], count: &mut u64) -> u64 {
     unsafe {
-        c::castulfrisa_verdict(record, room.as_mut_ptr(), room.len(), signature, host_key, k_out.as_mut_ptr(), k_out.len())
+        c::castulfrisa_verdict(
+            exchange.as_mut_ptr(), exchange.len() as u64, room.as_mut_ptr(), room.len() as u64,
+            signature, host_key, k_out.as_mut_ptr(), k_out.len() as u64, count,
+        )
     }
+}
+
+// ---- calls on an exchange that are no steps
+
+/// What `read_init` would answer, and C of an INIT that it would accept.
+pub fn init_c(exchange: &[u8], room: &[u8], payload: &[u8], value: &mut Part) -> u64 {
+    unsafe {
+        c::castulfrisa_init_c(
+            exchange.as_ptr(), exchange.len() as u64, room.as_ptr(), room.len() as u64,
+            payload.as_ptr(), payload.len() as u64, value,
+        )
+    }
+}
+
+/// What `read_reply` would answer, and K_S of a REPLY that it would accept.
+pub fn reply_host_key(exchange: &[u8], room: &[u8], payload: &[u8], host_key: &mut Part) -> u64 {
+    unsafe {
+        c::castulfrisa_reply_host_key(
+            exchange.as_ptr(), exchange.len() as u64, room.as_ptr(), room.len() as u64,
+            payload.as_ptr(), payload.len() as u64, host_key,
+        )
+    }
+}
+
+/// Likewise, and S.
+pub fn reply_s(exchange: &[u8], room: &[u8], payload: &[u8], value: &mut Part) -> u64 {
+    unsafe {
+        c::castulfrisa_reply_s(
+            exchange.as_ptr(), exchange.len() as u64, room.as_ptr(), room.len() as u64,
+            payload.as_ptr(), payload.len() as u64, value,
+        )
+    }
+}
+
+/// Likewise, and the signature.
+pub fn reply_signature(exchange: &[u8], room: &[u8], payload: &[u8], signature: &mut Part) -> u64 {
+    unsafe {
+        c::castulfrisa_reply_signature(
+            exchange.as_ptr(), exchange.len() as u64, room.as_ptr(), room.len() as u64,
+            payload.as_ptr(), payload.len() as u64, signature,
+        )
+    }
+}
+
+/// How far an exchange has come.
+pub fn state(exchange: &[u8], told: &mut Told) -> u64 {
+    unsafe { c::castulfrisa_state(exchange.as_ptr(), exchange.len() as u64, told) }
+}
+
+// ---- for the host
+
+/// Fills a buffer with zeros, out of this compiler's sight.
+pub fn wipe(buffer: &mut [u8]) {
+    unsafe { c::castulfrisa_wipe(buffer.as_mut_ptr(), buffer.len() as u64) }
+}
+
+/// The archive's version.
+pub fn version() -> u64 {
+    unsafe { c::castulfrisa_version() }
 }

@@ -1,5 +1,9 @@
-//! What the wrapper adds to the boundary: slices for parts, refusals for numbers, an iterator for a list, and a K that is wiped.
+//! What the wrapper adds to the boundary: slices for parts, refusals for numbers, an iterator for a list, an exchange that comes
+//! back or ends, and a K that is wiped.
+use castulfrisa::exchange::{Complete, SecretDone, Started};
 use castulfrisa::*;
+use std::fmt::Write;
+use std::mem::ManuallyDrop;
 
 fn kexinit(kex: &[u8], host_keys: &[u8], follows: bool) -> Vec<u8> {
     let mut out = vec![0; 4096];
@@ -9,8 +13,14 @@ fn kexinit(kex: &[u8], host_keys: &[u8], follows: bool) -> Vec<u8> {
 }
 
 #[test]
+fn the_archive_is_of_this_version() {
+    assert!(same_version());
+    assert_eq!(raw::version(), VERSION);
+}
+
+#[test]
 fn refusals_are_their_numbers() {
-    for number in 1..=255 {
+    for number in (1..=300).chain([1 << 32, u64::MAX]) {
         let refusal = Refusal::of(number);
         assert_eq!(refusal.number(), number);
         assert_eq!(matches!(refusal, Refusal::Other(_)), !matches!(number, 1..=5 | 10..=22));
@@ -32,44 +42,255 @@ fn strings_and_mpints() {
 }
 
 #[test]
+fn methods_have_numbers_names_and_sizes() {
+    for (i, method) in Method::ALL.into_iter().enumerate() {
+        assert_eq!(method.number(), i as u64 + 1);
+        assert_eq!((Method::of(method.number()), Method::of_name(&method.name())), (Some(method), Some(method)));
+        assert!(method.sizes().c_len > 0 && method.sizes().hybrid == (method >= Method::Mlkem768Nistp256Sha256));
+    }
+    assert_eq!(&Method::Curve448Sha512.name()[..], b"curve448-sha512");
+    assert_eq!(Method::Curve448Sha512.name().to_string(), "curve448-sha512");
+    assert_eq!(format!("{:?}", Method::Curve448Sha512.name()), "\"curve448-sha512\"");
+    assert_eq!((Method::of(0), Method::of(10), Method::of(257), Method::of_name(b"none")), (None, None, None, None));
+    let sizes = Method::Mlkem768X25519Sha256.sizes();
+    let lens = (sizes.c_len, sizes.c_classical, sizes.s_len, sizes.s_classical, sizes.x_len, sizes.digest_len);
+    assert_eq!((lens, sizes.hybrid, sizes.zero_check), ((1216, 1184, 1120, 1088, 32, 32), true, true));
+}
+
+#[test]
 fn a_list_ends_or_stops_at_a_bad_name() {
     let payload = kexinit(b"a,bc", b"d", true);
-    let opened = open_list(&payload, 1).unwrap();
+    let opened = open_list(&payload, List::Kex).unwrap();
     assert_eq!((opened.cookie, opened.follows, opened.reserved), (&[3; 16][..], true, 9));
-    let names: Vec<_> = opened.names.collect();
+    let names: Vec<_> = opened.names.take(9).collect();
     assert_eq!(names, [Ok(&b"a"[..]), Ok(&b"bc"[..])]);
+    assert_eq!(open_list(&payload, List::LanguageS2c).unwrap().names.next(), None);
 
     let mut bad = payload.clone();
     bad[22] = b' '; // the comma between the two
-    let mut names = open_list(&bad, 1).unwrap().names;
+    let mut names = open_list(&bad, List::Kex).unwrap().names;
     assert_eq!(names.next(), Some(Err(Refusal::BadName)));
     assert_eq!((names.next(), names.next()), (None, None));
-    assert_eq!(open_list(&payload, 11).unwrap_err(), Refusal::BadInput);
+    assert_eq!(open_list(&payload[1..], List::Kex).unwrap_err(), Refusal::Message);
+}
+
+#[test]
+fn a_bad_list_is_named() {
+    let good: [&[u8]; 10] = [b"a"; 10];
+    for (i, list) in List::ALL.into_iter().enumerate() {
+        assert_eq!(List::of(list.number()), Some(list));
+        let mut out = [7; 100];
+        let mut lists = good;
+        lists[i] = b"a,";
+        let not = write_kexinit(&mut out, &[3; 16], &lists, false, 0).unwrap_err();
+        assert_eq!(not, NotWritten { refusal: Refusal::BadInput, list: Some(list) });
+        assert!(not.to_string().starts_with(&format!("list {} ({:?}): ", i + 1, list)));
+        assert_eq!(out, [7; 100]);
+        // the one with which they become too long; a bad one ahead of it is named first
+        let long = vec![b'x'; 4034];
+        lists[i] = &long;
+        let long = write_kexinit(&mut out, &[3; 16], &lists, false, 0).unwrap_err();
+        assert_eq!((long.refusal, long.list), (Refusal::BadInput, Some(list)));
+        if i > 0 {
+            lists[0] = b"\n";
+            assert_eq!(write_kexinit(&mut out, &[3; 16], &lists, false, 0).unwrap_err().list, Some(List::Kex));
+        }
+    }
+    assert_eq!((List::of(0), List::of(11)), (None, None));
+    let short = write_kexinit(&mut [0; 71], &[3; 16], &good, true, u32::MAX).unwrap_err();
+    assert_eq!(short, NotWritten { refusal: Refusal::ShortOutput, list: None });
+    assert_eq!(short.to_string(), Refusal::ShortOutput.to_string());
+    // 63 names of 63 bytes and a comma: the longest KEXINIT, and one byte more
+    let longest = vec![[b'n'; 63]; 63].join(&b',');
+    let (all, most) = (vec![longest, vec![b'm'; 3]], 4096 - 62);
+    let mut lists = [&b""[..]; 10];
+    (lists[0], lists[9]) = (&all[0], &all[1]);
+    assert_eq!(all[0].len() + all[1].len(), most);
+    assert_eq!(write_kexinit(&mut [0; 4096], &[3; 16], &lists, false, 0), Ok(4096));
+    lists[5] = b"o";
+    let more = write_kexinit(&mut [0; 5000], &[3; 16], &lists, false, 0);
+    assert_eq!(more, Err(NotWritten { refusal: Refusal::BadInput, list: Some(List::LanguageS2c) }));
 }
 
 #[test]
 fn the_choice() {
     let (client, server) = (kexinit(b"none,curve448-sha512", b"x,y", true), kexinit(b"curve448-sha512", b"y", false));
     let choice = choose(&client, &server).unwrap();
-    assert_eq!(choice, Choice { method: 3, host_key: b"y", ignore_client: true, ignore_server: false });
+    assert_eq!(choice, Choice { method: Method::Curve448Sha512, host_key: b"y", ignore_client: true, ignore_server: false });
     assert_eq!(choose(&client, &kexinit(b"none", b"y", false)), Err(Refusal::NoCommonMethod));
-    assert_eq!((method_number(b"curve448-sha512"), method_number(b"none")), (Some(3), None));
-    assert!(method_sizes(3).is_some() && method_sizes(10).is_none());
+}
+
+/// What a test lends: an exchange and a room that others have used.
+struct Buffers {
+    exchange: [u8; EXCHANGE],
+    room: Vec<u8>,
+}
+
+impl Buffers {
+    fn new() -> Buffers {
+        Buffers { exchange: [7; EXCHANGE], room: vec![7; ROOM + 9] }
+    }
+
+    fn client(&mut self) -> Client<'_, Started> {
+        Client::start(Method::Curve25519Sha256, GREETING, &mut self.exchange, &mut self.room).unwrap()
+    }
+
+    fn server(&mut self) -> Server<'_, Started> {
+        Server::start(Method::Curve25519Sha256, GREETING, &mut self.exchange, &mut self.room).unwrap()
+    }
+
+    fn wiped(&self) -> bool {
+        self.exchange.iter().chain(&self.room).all(|byte| *byte == 0)
+    }
+}
+
+const GREETING: Greeting = Greeting { vc: b"c", vs: b"s", ic: &[20], is: &[20, 1] };
+const X: [u8; 32] = [0x5a; 32];
+
+fn init() -> Vec<u8> {
+    [&[30, 0, 0, 0, 32][..], &[1; 32]].concat()
+}
+
+fn reply() -> Vec<u8> {
+    [&[31, 0, 0, 0, 1, b'k', 0, 0, 0, 32][..], &[2; 32], &[0, 0, 0, 1, b'g']].concat()
+}
+
+fn client_at_secret(b: &mut Buffers) -> Client<'_, SecretDone> {
+    let client = b.client().own_c(&[1; 32], &mut [0; INIT]).unwrap().0;
+    let client = client.read_reply(&reply()).unwrap().0;
+    client.take_secret(Classical::Given(&X), Kem::Absent, &[]).unwrap()
+}
+
+fn server_at_secret(b: &mut Buffers) -> Server<'_, SecretDone> {
+    let server = b.server().read_init(&init()).unwrap().0;
+    server.take_secret(Classical::Given(&X), Kem::Absent, &[], Own { host_key: b"k", s: &[2; 32] }).unwrap()
+}
+
+fn back<T, E>(step: Result<T, Stopped<E>>, want: Refusal) -> E {
+    match step {
+        Err(Stopped::Refused { refusal, exchange }) if refusal == want => exchange,
+        Err(stopped) => panic!("{:?} and not {:?}", stopped, want),
+        Ok(_) => panic!("accepted and not {:?}", want),
+    }
+}
+
+fn ended<T, E>(step: Result<T, Stopped<E>>, want: Refusal) {
+    match step {
+        Err(Stopped::Failed(refusal)) if refusal == want => {}
+        Err(stopped) => panic!("{:?} and not {:?}", stopped, want),
+        Ok(_) => panic!("accepted and not {:?}", want),
+    }
 }
 
 #[test]
-fn a_fault_ends_an_exchange_and_empties_its_room() {
-    let i = kexinit(b"curve25519-sha256", b"k", false);
-    let mut room = vec![7; ROOM + 9];
-    let mut e = Exchange::start(Role::Server, 1, (b"c", b"s"), (&i, &i), &mut room).unwrap();
-    assert_eq!(e.hash_input(), &[]);
-    assert_eq!(e.take_secret(Classical::Failed, Kem::Absent, &[], Own::default()), Err(Refusal::NotDue));
-    assert_eq!((e.failure(), e.is_complete()), (None, false));
-    assert_eq!(e.read_init(&[30, 0, 0, 0, 31]), Err(Refusal::PastEnd));
-    assert_eq!(e.failure(), Some(Refusal::PastEnd));
-    assert_eq!(e.read_init(&[30]), Err(Refusal::NotDue));
-    drop(e);
-    assert!(room.iter().all(|b| *b == 0));
-    let e = Exchange::start(Role::Client, 10, (b"c", b"s"), (&i, &i), &mut room);
-    assert_eq!(e.err(), Some(Refusal::NoMethod));
+fn what_changes_nothing_brings_the_exchange_back() {
+    let mut b = Buffers::new();
+    let short = Client::start(Method::Curve25519Sha256, GREETING, &mut b.exchange, &mut b.room[..ROOM - 1]);
+    assert_eq!(short.err(), Some(Refusal::ShortRoom));
+    let bad = Server::start(Method::Curve25519Sha256, Greeting { vc: b"\n", ..GREETING }, &mut b.exchange, &mut b.room);
+    assert_eq!(bad.err(), Some(Refusal::BadInput));
+    assert!(b.room.iter().all(|byte| *byte == 7), "a refused start leaves the room");
+
+    let mut out = [0; INIT];
+    let client = back(b.client().own_c(&[1; 31], &mut out), Refusal::BadInput);
+    let client = back(client.own_c(&[1; 32], &mut out[1..]), Refusal::ShortOutput);
+    let (client, sent) = client.own_c(&[1; 32], &mut out).unwrap();
+    assert_eq!(sent, init());
+    let payload = reply();
+    let (client, parts) = client.read_reply(&payload).unwrap();
+    assert_eq!(parts, Reply { host_key: b"k", s: &[2; 32], signature: b"g" });
+    let client = back(client.take_secret(Classical::Given(&X[1..]), Kem::Absent, &[]), Refusal::BadInput);
+    let client = back(client.take_secret(Classical::Given(&X), Kem::Done, &[1; 32]), Refusal::BadInput);
+    let client = client.take_secret(Classical::Given(&X), Kem::Absent, &[]).unwrap();
+    let k = [&[0, 0, 0, 32][..], &X].concat();
+    assert!(client.hash_input().starts_with(b"\0\0\0\x01c\0\0\0\x01s") && client.hash_input().ends_with(&k));
+    assert_eq!(client.role(), Role::Client);
+    let mut written = K::new();
+    assert_eq!(written.as_bytes(), &[]);
+    let client: Client<Complete> = client.verdict(true, true, &mut written).unwrap();
+    assert_eq!(written.as_bytes(), k);
+    assert!(client.hash_input().ends_with(&k));
+    drop(client);
+    assert!(b.wiped());
+
+    let mut out = [0; REPLY];
+    let server = server_at_secret(&mut b);
+    assert_eq!(server.role(), Role::Server);
+    let mut written = K::new();
+    let server = back(server.sign(&[], &mut out, &mut written), Refusal::BadInput);
+    let server = back(server.sign(b"g", &mut out[1..], &mut written), Refusal::ShortOutput);
+    assert_eq!(written.as_bytes(), &[]);
+    let (server, sent) = server.sign(b"g", &mut out, &mut written).unwrap();
+    assert_eq!((sent, written.as_bytes()), (&reply()[..], &k[..]));
+    assert!(server.hash_input().ends_with(&k));
+    drop(server);
+    assert!(b.wiped());
+}
+
+#[test]
+fn a_fault_ends_an_exchange_and_empties_what_it_was_lent() {
+    let mut b = Buffers::new();
+    ended(b.server().read_init(&[30, 0, 0, 0, 31]), Refusal::PastEnd);
+    assert!(b.wiped());
+    let client = b.client().own_c(&[1; 32], &mut [0; INIT]).unwrap().0;
+    ended(client.read_reply(&[30]), Refusal::Message);
+    assert!(b.wiped());
+    let server = b.server().read_init(&init()).unwrap().0;
+    ended(server.take_secret(Classical::Failed, Kem::Absent, &[], Own { host_key: b"k", s: &[2; 32] }), Refusal::Classical);
+    assert!(b.wiped());
+    let mut k = K::new();
+    for (signature, host_key) in [(false, true), (true, false)] {
+        ended(client_at_secret(&mut b).verdict(signature, host_key, &mut k), Refusal::Verdict);
+        assert!(b.wiped());
+    }
+    assert_eq!(k.as_bytes(), &[]);
+}
+
+#[test]
+fn what_was_lent_is_wiped_at_every_stage() {
+    let mut b = Buffers::new();
+    drop(b.client());
+    assert!(b.wiped());
+    drop(b.client().own_c(&[1; 32], &mut [0; INIT]));
+    assert!(b.wiped());
+    drop(b.server().read_init(&init()));
+    assert!(b.wiped());
+    drop(client_at_secret(&mut b));
+    assert!(b.wiped());
+    // also where it is given up for its refusal
+    let refusal: Refusal = server_at_secret(&mut b).sign(&[], &mut [0; REPLY], &mut K::new()).unwrap_err().into();
+    assert_eq!(refusal, Refusal::BadInput);
+    assert!(b.wiped());
+}
+
+#[test]
+fn a_k_is_wiped_when_it_is_dropped() {
+    let mut b = Buffers::new();
+    let mut k = ManuallyDrop::new(K::new());
+    server_at_secret(&mut b).sign(b"g", &mut [0; REPLY], &mut k).unwrap();
+    let place: *const K = &*k;
+    let bytes = |place: *const K| unsafe { std::slice::from_raw_parts(place.cast::<u8>(), size_of::<K>()) }.to_vec();
+    let shows = |bytes: Vec<u8>| bytes.windows(4).any(|four| four == &X[..4]);
+    assert!(shows(bytes(place)));
+    unsafe { ManuallyDrop::drop(&mut k) };
+    assert!(!shows(bytes(place)));
+}
+
+#[test]
+fn nothing_secret_is_shown() {
+    let mut b = Buffers::new();
+    let mut k = K::new();
+    let mut shown = String::new();
+    let client = client_at_secret(&mut b);
+    write!(shown, "{:?} {:?} ", Classical::Given(&X), client).unwrap();
+    let client = client.verdict(true, true, &mut k).unwrap();
+    write!(shown, "{:?} {:?} ", client, k).unwrap();
+    drop(client);
+    let refused = server_at_secret(&mut b).sign(&[], &mut [0; REPLY], &mut k).map(|_| ()).unwrap_err();
+    write!(shown, "{:?} {}", refused, refused).unwrap();
+    assert_eq!(
+        shown,
+        "Given(32 bytes) Exchange { role: 1, method: 1, stage: 4, .. } Exchange { role: 1, method: 1, stage: 5, .. } K { .. } \
+         Refused { refusal: BadInput, .. } a field, outcome or digest handed in has a wrong length or form (4)"
+    );
 }

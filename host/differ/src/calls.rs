@@ -1,6 +1,8 @@
-//! Random calls of an exchange: mostly the one that is due, often with one thing wrong, now and then any other; between them rooms that
-//! somebody wrote to, rooms of another length, and records with a number changed.
+//! Random calls of an exchange: mostly the one that is due, often with one thing wrong, now and then any other, or a number wider
+//! than any that there is; between them rooms that somebody wrote to, rooms of another length, and exchanges with a byte changed,
+//! of another length, or put back from an older copy.
 use crate::random::Random;
+use crate::stored::{exchange_of, EXCHANGE};
 use plain::{Exchange, Stage};
 
 /// Bytes that repeat: what an output or a room holds before it is lent.
@@ -18,13 +20,14 @@ impl Filled {
     }
 }
 
-/// A number of the record.
+/// A number in the exchange's bytes.
 #[derive(Clone, Copy, Debug)]
 pub enum Field {
-    Role,
-    Method,
+    Mark,
     Stage,
     Fail,
+    Role,
+    Method,
     Length(usize),
     K(usize),
 }
@@ -35,15 +38,34 @@ pub enum Call {
     Room(Filled),
     /// Somebody writes into the room.
     Poke(usize, Vec<u8>),
-    /// Somebody writes into the record.
-    Forge(Field, usize),
-    Start { role: u8, method: u8, vc: Vec<u8>, vs: Vec<u8>, ic: Vec<u8>, is: Vec<u8> },
+    /// Somebody writes into the exchange.
+    Forge(Field, u16),
+    /// Other bytes lent for the exchange, of any length.
+    Lend(Vec<u8>),
+    /// The exchange becomes what it was after an earlier call of the list, and where `room` the room does too.
+    Old { copy: usize, room: bool },
+    Start { role: u64, method: u64, vc: Vec<u8>, vs: Vec<u8>, ic: Vec<u8>, is: Vec<u8> },
     OwnC { c: Vec<u8>, out: Filled },
     Init(Vec<u8>),
     Reply(Vec<u8>),
-    Secret { given: Option<usize>, x: Vec<u8>, kem: u8, digest: Vec<u8>, ks: Vec<u8>, s: Vec<u8> },
+    Secret { given: u64, x_count: u64, x: Vec<u8>, kem: u64, digest: Vec<u8>, ks: Vec<u8>, s: Vec<u8> },
     Sign { signature: Vec<u8>, out: Filled, k_out: Filled },
-    Verdict { signature: bool, host_key: bool, k_out: Filled },
+    Verdict { signature: u64, host_key: u64, k_out: Filled },
+}
+
+/// A number that a byte or 32 bits of it would mean: `n` with something above them.
+pub fn widened(r: &mut Random, n: u64) -> u64 {
+    n | r.of(&[1 << 8, 1 << 16, 1 << 32, 1 << 63, u64::MAX << 8, u64::MAX << 32])
+}
+
+/// A yes, 1, or any of what is none.
+pub fn yes_or_no(r: &mut Random, yes: bool) -> u64 {
+    match (yes, r.below(4)) {
+        (true, _) => 1,
+        (_, 0) => r.of(&[2, 3, 128, 255]),
+        (_, 1) => widened(r, 1),
+        _ => 0,
+    }
 }
 
 /// A length at or beside an edge, or somewhere between.
@@ -245,19 +267,20 @@ fn x_value(r: &mut Random, len: usize) -> Vec<u8> {
 fn secret(r: &mut Random, role: u8, method: u8) -> Call {
     let (x_len, digest_len, hybrid) = plain::method(method).map_or((32, 32, false), |m| (m.x_len, m.digest_len, m.hybrid));
     let mut x = x_value(r, x_len);
-    let mut given = Some(x_len);
+    let (mut given, mut x_count) = (1, x_len as u64);
     let mut kem = if hybrid { 2 } else { 0 };
     if r.once_in(10) {
-        given = None;
+        given = yes_or_no(r, false);
         if r.coin() {
             let n = r.below(40);
             x = r.bytes(n);
+            x_count = r.word();
         }
     }
     if hybrid && r.once_in(10) {
         kem = 1;
     }
-    let fails = given.is_none() || kem == 1;
+    let fails = given != 1 || kem == 1;
     let mut digest = if hybrid && !fails { r.bytes(digest_len) } else { Vec::new() };
     let (mut ks, mut s) = (blob(r), s_value(r, method));
     if role == 1 && r.coin() {
@@ -267,13 +290,19 @@ fn secret(r: &mut Random, role: u8, method: u8) -> Call {
     if r.once_in(6) {
         match r.below(6) {
             0 => {
-                given = Some(r.of(&[0, 31, 32, 33, 48, 56, 66, usize::MAX]));
+                given = 1;
+                x_count = r.of(&[0, 31, 32, 33, 48, 56, 66, x_len as u64 | 1 << 32, u64::MAX]);
             }
             1 => {
                 let n = r.of(&[0, 31, 33, 48, 56, 66]);
                 x = r.bytes(n);
             }
-            2 => kem = r.of(&[0, 1, 2, 3, 255]),
+            2 => {
+                kem = r.of(&[0, 1, 2, 3, 255]);
+                if r.coin() {
+                    kem = widened(r, kem);
+                }
+            }
             3 => {
                 let n = r.of(&[0, 1, 31, 32, 33, 48, 64]);
                 digest = r.bytes(n);
@@ -282,7 +311,7 @@ fn secret(r: &mut Random, role: u8, method: u8) -> Call {
             _ => s.push(0),
         }
     }
-    Call::Secret { given, x, kem, digest, ks, s }
+    Call::Secret { given, x_count, x, kem, digest, ks, s }
 }
 
 /// The step with this number: own C, INIT, REPLY, secret, signature, verdict.
@@ -296,42 +325,75 @@ fn step(r: &mut Random, which: usize, role: u8, method: u8) -> Call {
         _ => {
             let no = r.once_in(6);
             let which = r.below(3);
-            Call::Verdict { signature: !(no && which != 0), host_key: !(no && which != 1), k_out: output(r, plain::K_RECORD) }
+            let (signature, host_key) = (yes_or_no(r, !(no && which != 0)), yes_or_no(r, !(no && which != 1)));
+            Call::Verdict { signature, host_key, k_out: output(r, plain::K_RECORD) }
         }
     }
 }
 
 pub fn start(r: &mut Random) -> Call {
-    let role = if r.once_in(40) { r.of(&[0, 3, 255]) } else { r.range(1, 2) as u8 };
-    let method = if r.once_in(40) { r.of(&[0, 10, 11, 255]) } else { r.range(1, 9) as u8 };
+    let (mut role, mut method) = (r.range(1, 2) as u64, r.range(1, 9) as u64);
+    match r.below(80) {
+        0 => role = r.of(&[0, 3, 255]),
+        1 => role = widened(r, role),
+        2 => method = r.of(&[0, 10, 11, 255]),
+        3 => method = widened(r, method),
+        _ => {}
+    }
     Call::Start { role, method, vc: version(r), vs: version(r), ic: kexinit(r), is: kexinit(r) }
 }
 
 fn forge(r: &mut Random) -> Call {
-    let field = match r.below(8) {
+    let field = match r.below(9) {
         0 => Field::Role,
         1 => Field::Method,
         2 => Field::Stage,
         3 => Field::Fail,
         4 => Field::K(r.below(4)),
         5 => Field::K(r.below(71)),
+        6 => Field::Mark,
         _ => Field::Length(r.below(7)),
     };
     let to = match field {
+        Field::Mark => r.of(&[0, 2, 129, 255]),
         Field::Role => r.of(&[0, 1, 2, 3, 255]),
-        Field::Method => r.below(12),
-        Field::Stage => r.below(9),
+        Field::Method => r.below(12) as u16,
+        Field::Stage => r.of(&[0, 1, 2, 3, 4, 5, 6, 7, 8, 255]),
         Field::Fail => r.of(&[0, 0, 1, 16, 255]),
         Field::K(_) => r.of(&[0, 1, 4, 32, 33, 36, 37, 255]),
         Field::Length(_) => r.of(&[
-            0, 1, 2, 32, 56, 65, 97, 133, 253, 254, 1120, 1216, 2048, 2049, 4096, 4097, 14_156, 0xffff_fffc, usize::MAX - 3, usize::MAX,
+            0, 1, 2, 32, 56, 65, 97, 133, 253, 254, 1120, 1216, 2048, 2049, 4096, 4097, 14_156, 0x7fff, 0xfffc, 0xffff,
         ]),
     };
     Call::Forge(field, to)
 }
 
-/// The next call of a list, where the exchange stands as it does.
-pub fn next(r: &mut Random, e: &Exchange, room_len: usize) -> Call {
+/// Bytes lent for an exchange: too few, too many, or as many as one has and any of them.
+fn other_bytes(r: &mut Random, now: &[u8]) -> Call {
+    let mut bytes = now.to_vec();
+    match r.below(4) {
+        0 => bytes = r.bytes(EXCHANGE),
+        1 => {
+            bytes.pop();
+        }
+        2 => bytes.push(r.byte()),
+        _ => bytes.resize(r.of(&[0, 1, 19, 45, 180, 4096]), 0),
+    }
+    Call::Lend(bytes)
+}
+
+/// The next call of a list, where these bytes are lent for the exchange, a room of this length, and so many older copies are kept.
+pub fn next(r: &mut Random, exchange: &[u8], room_len: usize, kept: usize) -> Call {
+    if kept > 0 && r.once_in(5) {
+        return Call::Old { copy: r.below(kept), room: r.coin() };
+    }
+    let e = match exchange_of(exchange) {
+        Some(e) => e,
+        // mostly out of it again: what no exchange has is refused until a start, and another length is there too
+        None if exchange.len() != EXCHANGE && r.coin() => return Call::Lend(r.bytes(EXCHANGE)),
+        None if r.coin() => return start(r),
+        None => Exchange { role: r.range(1, 2) as u8, method: r.range(1, 9) as u8, ..Exchange::default() },
+    };
     match r.below(64) {
         0 => return forge(r),
         1 => return start(r),
@@ -343,7 +405,8 @@ pub fn next(r: &mut Random, e: &Exchange, room_len: usize) -> Call {
             return Call::Poke(at, r.bytes(n));
         }
         3 => return Call::Room(room(r)),
-        4..=9 => {
+        4 => return other_bytes(r, exchange),
+        5..=9 => {
             let which = r.below(6);
             return step(r, which, e.role, e.method);
         }

@@ -1,4 +1,5 @@
-//! Rounds of strings, mpints, method names, KEXINIT and choice on both, every lent buffer between fences.
+//! Rounds of strings, mpints, methods, KEXINIT and choice on both, every lent buffer and every lent number at a fence.
+use crate::calls::{widened, yes_or_no};
 use crate::fence::{self, Fence};
 use crate::random::Random;
 use crate::tally::Tally;
@@ -30,8 +31,14 @@ const OTHERS: [&[u8]; 10] = [
     b"curve25519-sha25",
 ];
 
+/// What a call of this module is lent: an output, two inputs, and numbers to fill in.
 #[derive(Default)]
-pub struct Fences([Fence; 12]);
+pub struct Lent {
+    out: Fence,
+    inputs: [Fence; 2],
+    numbers: [Fence; 2],
+    ends: Fence,
+}
 
 /// Both sides of one call: what was given, and what stands in the output after it.
 fn same<T: PartialEq<U> + Debug, U: Debug>(what: impl Fn() -> String, core: T, plain: U) -> Result<(), String> {
@@ -41,12 +48,17 @@ fn same<T: PartialEq<U> + Debug, U: Debug>(what: impl Fn() -> String, core: T, p
     Err(format!("{}\nthe core gives {:?}\nthe document  {:?}", what(), core, plain))
 }
 
-fn part(p: raw::Part) -> plain::Part {
-    plain::Part { start: p.start, len: p.len }
+/// An input that the core must leave.
+fn kept(what: &str, fence: &Fence, given: &[u8]) -> Result<(), String> {
+    same(|| format!("the input of {}", what), fence.bytes(), given)
 }
 
-fn written(w: raw::Written) -> plain::Written {
-    plain::Written { number: w.number, count: w.count }
+fn part(p: plain::Part) -> raw::Part {
+    raw::Part { start: p.start as u64, len: p.len as u64 }
+}
+
+fn parts(body: plain::Part, rest: plain::Part) -> raw::StringParts {
+    raw::StringParts { body: part(body), rest: part(rest) }
 }
 
 pub fn hex(s: &[u8]) -> String {
@@ -104,44 +116,54 @@ pub fn integer(r: &mut Random) -> Vec<u8> {
     v
 }
 
-fn strings(r: &mut Random, f: &mut Fences, t: &mut Tally) -> Result<(), String> {
+fn strings(r: &mut Random, f: &mut Lent, t: &mut Tally) -> Result<(), String> {
     let ahead = r.coin();
-    let [i, o, ..] = &mut f.0;
+    let ([i, _], [n, _]) = (&mut f.inputs, &mut f.numbers);
     let most = if r.once_in(8) { 5000 } else { 40 };
-    let n = r.below(most);
-    let body = r.bytes(n);
+    let len = r.below(most);
+    let body = r.bytes(len);
     let s = encoded(r, &body);
-    let core = raw::read_string(i.lend(&s, ahead));
+    let told: &mut raw::StringParts = n.numbers(r.word(), ahead);
+    let number = raw::read_string(i.lend(&s, ahead), told);
     let model = plain::read_string(&s);
-    t.note("read_string", core.number);
-    same(|| format!("read_string {}", hex(&s)), (core.number, part(core.body), part(core.rest)), (model.number, model.body, model.rest))?;
+    t.note("read_string", number);
+    same(|| format!("read_string {}", hex(&s)), (number, *told), (model.number.into(), parts(model.body, model.rest)))?;
+    kept("read_string", i, &s)?;
     let mut out = output(r, 4 + body.len());
-    let lent = o.lend(&out, ahead);
-    let core = raw::write_string(lent, i.lend(&body, ahead));
+    let lent = f.out.lend(&out, ahead);
+    let count: &mut u64 = n.numbers(r.word(), ahead);
+    let number = raw::write_string(lent, i.lend(&body, ahead), count);
     let model = plain::write_string(&mut out, &body);
-    t.note("write_string", core.number);
-    same(|| format!("write_string {}", hex(&body)), (written(core), &lent[..]), (model, &out[..]))
+    t.note("write_string", number);
+    let want = (model.number.into(), model.count as u64, &out[..]);
+    same(|| format!("write_string {}", hex(&body)), (number, *count, &lent[..]), want)?;
+    kept("write_string", i, &body)
 }
 
-fn mpints(r: &mut Random, f: &mut Fences, t: &mut Tally) -> Result<(), String> {
+fn mpints(r: &mut Random, f: &mut Lent, t: &mut Tally) -> Result<(), String> {
     let ahead = r.coin();
-    let [i, o, ..] = &mut f.0;
-    let number = integer(r);
-    let s = encoded(r, &number);
-    let core = raw::read_mpint(i.lend(&s, ahead));
+    let ([i, _], [n, m]) = (&mut f.inputs, &mut f.numbers);
+    let bytes = integer(r);
+    let s = encoded(r, &bytes);
+    let (sign, told): (&mut i64, &mut raw::StringParts) = (m.numbers(r.word(), ahead), n.numbers(r.word(), ahead));
+    let number = raw::read_mpint(i.lend(&s, ahead), sign, told);
     let model = plain::read_mpint(&s);
-    t.note("read_mpint", core.number);
+    t.note("read_mpint", number);
     same(
         || format!("read_mpint {}", hex(&s)),
-        (core.number, core.sign, part(core.body), part(core.rest)),
-        (model.number, model.sign, model.body, model.rest),
+        (number, *sign, *told),
+        (model.number.into(), model.sign.into(), parts(model.body, model.rest)),
     )?;
-    let mut out = output(r, 4 + number.len());
-    let lent = o.lend(&out, ahead);
-    let core = raw::write_mpint(lent, i.lend(&number, ahead));
-    let model = plain::write_mpint(&mut out, &number);
-    t.note("write_mpint", core.number);
-    same(|| format!("write_mpint {}", hex(&number)), (written(core), &lent[..]), (model, &out[..]))
+    kept("read_mpint", i, &s)?;
+    let mut out = output(r, 4 + bytes.len());
+    let lent = f.out.lend(&out, ahead);
+    let count: &mut u64 = n.numbers(r.word(), ahead);
+    let number = raw::write_mpint(lent, i.lend(&bytes, ahead), count);
+    let model = plain::write_mpint(&mut out, &bytes);
+    t.note("write_mpint", number);
+    let want = (model.number.into(), model.count as u64, &out[..]);
+    same(|| format!("write_mpint {}", hex(&bytes)), (number, *count, &lent[..]), want)?;
+    kept("write_mpint", i, &bytes)
 }
 
 fn name(r: &mut Random) -> Vec<u8> {
@@ -229,66 +251,151 @@ pub fn payload(r: &mut Random) -> Vec<u8> {
     v
 }
 
-fn next_on_both(payload: &[u8], lent: &[u8], cursor: raw::Cursor, t: &mut Tally) -> Result<raw::Next, String> {
-    let core = raw::next_name(lent, cursor);
-    let model = plain::next_name(payload, plain::Cursor { at: cursor.at, end: cursor.end });
-    t.note("next_name", core.number);
+/// The cursor after the call, and whether a name was found.
+fn next_on_both(
+    r: &mut Random, payload: &[u8], lent: &[u8], cursor: raw::Cursor, numbers: &mut [Fence; 2], t: &mut Tally,
+) -> Result<(raw::Cursor, bool), String> {
+    let (ahead, [n, m]) = (r.coin(), numbers);
+    let (moved, name): (_, &mut raw::Part) = (m.given(cursor, ahead), n.numbers(r.word(), ahead));
+    let number = raw::next_name(lent, moved, name);
+    let model = plain::next_name(payload, plain::Cursor { at: cursor.at as usize, end: cursor.end as usize });
+    t.note("next_name", number);
+    let after = raw::Cursor { at: model.cursor.at as u64, end: model.cursor.end as u64 };
     same(
         || format!("next_name {} at {:?}", hex(payload), cursor),
-        (core.number, core.found, part(core.name), core.cursor.at, core.cursor.end),
-        (model.number, model.found, model.name, model.cursor.at, model.cursor.end),
+        (number, *name, *moved),
+        (model.number.into(), part(model.name), after),
     )?;
-    Ok(core)
+    // the end and a bad name are told by a name of no bytes, which no name is
+    same(|| format!("a name's length in {} at {:?}", hex(payload), cursor), name.len > 0, model.found)?;
+    Ok((after, model.found))
 }
 
-fn reader(r: &mut Random, f: &mut Fences, t: &mut Tally) -> Result<(), String> {
+fn reader(r: &mut Random, f: &mut Lent, t: &mut Tally) -> Result<(), String> {
     let ahead = r.coin();
     let p = payload(r);
-    let lent = f.0[0].lend(&p, ahead);
-    let list = if r.once_in(30) { r.of(&[0, 11, usize::MAX]) } else { r.range(1, 10) };
-    let core = raw::open_list(lent, list);
-    let model = plain::open_list(&p, list);
-    t.note("open_list", core.number);
-    same(
-        || format!("open_list {} {}", hex(&p), list),
-        (core.number, part(core.cookie), core.follows, core.reserved, core.cursor.at, core.cursor.end),
-        (model.number, model.cookie, model.follows, model.reserved, model.cursor.at, model.cursor.end),
-    )?;
-    let mut cursor = core.cursor;
+    let lent = f.inputs[0].lend(&p, ahead);
+    let list = list_number(r);
+    let told: &mut raw::Opened = f.numbers[0].numbers(r.word(), ahead);
+    let number = raw::open_list(lent, list, told);
+    let model = plain::open_list(&p, list as usize);
+    t.note("open_list", number);
+    let cursor = raw::Cursor { at: model.cursor.at as u64, end: model.cursor.end as u64 };
+    let opened = raw::Opened { cookie: part(model.cookie), follows: model.follows.into(), reserved: model.reserved.into(), cursor };
+    same(|| format!("open_list {} {}", hex(&p), list), (number, *told), (model.number.into(), opened))?;
+    let mut cursor = cursor;
     loop {
-        let n = next_on_both(&p, lent, cursor, t)?;
-        if !n.found {
+        let (after, found) = next_on_both(r, &p, lent, cursor, &mut f.numbers, t)?;
+        if !found {
             break;
         }
-        cursor = n.cursor;
+        cursor = after;
     }
     // it stays at the end or before the bad name
-    next_on_both(&p, lent, cursor, t)?;
+    next_on_both(r, &p, lent, cursor, &mut f.numbers, t)?;
     // a cursor that nobody made
-    let edge = [0, 1, p.len(), p.len().wrapping_sub(1), p.len() + 1, usize::MAX, usize::MAX - 1];
-    let any = |r: &mut Random| if r.coin() { r.of(&edge) } else { r.below(p.len() + 2) };
+    let len = p.len() as u64;
+    let edge = [0, 1, len, len.wrapping_sub(1), len + 1, len | 1 << 32, 1 << 32, u64::MAX, u64::MAX - 1];
+    let any = |r: &mut Random| if r.coin() { r.of(&edge) } else { r.below(p.len() + 2) as u64 };
     let strange = raw::Cursor { at: any(r), end: any(r) };
-    next_on_both(&p, lent, strange, t).map(|_| ())
+    next_on_both(r, &p, lent, strange, &mut f.numbers, t)?;
+    kept("open_list and next_name", &f.inputs[0], &p)
 }
 
-fn writer(r: &mut Random, f: &mut Fences, t: &mut Tally) -> Result<(), String> {
+/// A list's number, or one that is none.
+pub fn list_number(r: &mut Random) -> u64 {
+    let list = r.range(1, 10) as u64;
+    match r.below(60) {
+        0 => r.of(&[0, 11, 255, u64::MAX]),
+        1 => widened(r, list),
+        _ => list,
+    }
+}
+
+/// The first list, 1 to 10, that no list stands for: one that ends ahead of its beginning or behind the bytes, or has a bad name.
+fn bad_list(lists: &[u8], ends: &[u64; 10]) -> u64 {
+    let mut from = 0;
+    for (number, &end) in (1..).zip(ends) {
+        let good = |list: &[u8]| plain::list_is_good(list);
+        if end > lists.len() as u64 || !lists.get(from..end as usize).is_some_and(good) {
+            return number;
+        }
+        from = end as usize;
+    }
+    0
+}
+
+/// Document 01's writer behind the table of ends: 4 also for a list that there is not, for bytes behind the last one, and for a
+/// reserved number above 32 bits.
+fn kexinit_of(out: &mut [u8], cookie: &[u8], lists: &[u8], ends: &[u64; 10], follows: u64, reserved: u64) -> (u64, raw::Proposed) {
+    let bad_list = bad_list(lists, ends);
+    let refused = (4, raw::Proposed { count: 0, bad_list });
+    let Ok(reserved) = u32::try_from(reserved) else { return refused };
+    if bad_list != 0 || ends[9] != lists.len() as u64 {
+        return refused;
+    }
+    let from = |i: usize| if i == 0 { 0 } else { ends[i - 1] as usize };
+    let ten: [&[u8]; 10] = std::array::from_fn(|i| &lists[from(i)..ends[i] as usize]);
+    let model = plain::write_kexinit(out, cookie, &ten, follows == 1, reserved);
+    (model.number.into(), raw::Proposed { count: model.count as u64, bad_list })
+}
+
+fn writer(r: &mut Random, f: &mut Lent, t: &mut Tally) -> Result<(), String> {
     let ahead = r.coin();
     let n = if r.once_in(20) { r.of(&[0, 15, 17, 32]) } else { 16 };
     let cookie = r.bytes(n);
-    let lists = ten(r);
-    let mut out = output(r, 62 + lists.iter().map(Vec::len).sum::<usize>());
-    let (follows, reserved) = (r.coin(), r.word() as u32);
-    let [o, c, rest @ ..] = &mut f.0;
-    let lent = o.lend(&out, ahead);
-    let lent_lists: Vec<&[u8]> = rest.iter_mut().zip(&lists).map(|(fence, l)| &*fence.lend(l, ahead)).collect();
-    let core = raw::write_kexinit(lent, c.lend(&cookie, ahead), lent_lists[..].try_into().unwrap(), follows, reserved);
-    let lists: Vec<&[u8]> = lists.iter().map(|l| &l[..]).collect();
-    let model = plain::write_kexinit(&mut out, &cookie, lists[..].try_into().unwrap(), follows, reserved);
-    t.note("write_kexinit", core.number);
-    same(|| format!("write_kexinit {} {:?}", hex(&cookie), lists), (written(core), &lent[..]), (model, &out[..]))
+    let ten = ten(r);
+    let mut lists = ten.concat();
+    let mut total = 0;
+    let mut ends: [u64; 10] = std::array::from_fn(|i| {
+        total += ten[i].len() as u64;
+        total
+    });
+    if r.once_in(12) {
+        match r.below(3) {
+            // an end that is elsewhere: ahead of its list, in another one, behind them all
+            0 => ends[r.below(10)] = r.of(&[0, 1, total, total + 1, total | 1 << 32, u64::MAX]),
+            1 => ends[r.below(10)] = r.below(total as usize + 2) as u64,
+            // bytes behind the last one
+            _ => lists.push(r.of(b"x,")),
+        }
+    }
+    let follows = r.coin();
+    let (follows, mut reserved) = (yes_or_no(r, follows), r.word() as u32 as u64);
+    if r.once_in(30) {
+        reserved |= r.of(&[1 << 32, 1 << 63, u64::MAX << 32]);
+    }
+    let mut out = output(r, 62 + lists.len());
+    let ([i, c], [n, _]) = (&mut f.inputs, &mut f.numbers);
+    let lent = f.out.lend(&out, ahead);
+    let told: &mut raw::Proposed = n.numbers(r.word(), ahead);
+    let table = f.ends.given(ends, ahead);
+    let number = raw::write_kexinit(lent, c.lend(&cookie, ahead), i.lend(&lists, ahead), table, follows, reserved, told);
+    let model = kexinit_of(&mut out, &cookie, &lists, &ends, follows, reserved);
+    t.note("write_kexinit", number);
+    let what = || format!("write_kexinit {} {} {:?} {} {}", hex(&cookie), hex(&lists), ends, follows, reserved);
+    same(what, (number, *told, &lent[..]), (model.0, model.1, &out[..]))?;
+    same(what, *table, ends)?;
+    kept("write_kexinit", i, &lists)?;
+    kept("write_kexinit", c, &cookie)
 }
 
-fn methods(r: &mut Random, f: &mut Fences, t: &mut Tally) -> Result<(), String> {
+/// A method's number, or one that is none.
+fn method_number(r: &mut Random) -> u64 {
+    let method = r.range(0, 10) as u64;
+    match r.below(8) {
+        0 => widened(r, method),
+        1 => r.byte().into(),
+        _ => method,
+    }
+}
+
+/// The row of a number as it came: a number above 255 has none.
+fn row(method: u64) -> Option<&'static plain::Method> {
+    plain::method(u8::try_from(method).ok()?)
+}
+
+fn methods(r: &mut Random, f: &mut Lent, t: &mut Tally) -> Result<(), String> {
     let mut name = if r.coin() { r.of(&METHODS).to_vec() } else { name(r) };
     if r.once_in(4) && !name.is_empty() {
         let i = r.below(name.len());
@@ -298,23 +405,86 @@ fn methods(r: &mut Random, f: &mut Fences, t: &mut Tally) -> Result<(), String> 
             _ => name.push(b'a'),
         }
     }
-    let core = raw::method_number(f.0[0].lend(&name, r.coin()));
+    let (ahead, [i, _], [n, _]) = (r.coin(), &mut f.inputs, &mut f.numbers);
+    let core = raw::method_number(i.lend(&name, ahead));
     t.note("method_number", core);
-    same(|| format!("method_number {}", hex(&name)), core, plain::method_number(&name))
+    same(|| format!("method_number {}", hex(&name)), core, u64::from(plain::method_number(&name)))?;
+    kept("method_number", i, &name)?;
+
+    let method = method_number(r);
+    let row = row(method);
+    let name = row.map_or(&[][..], |m| m.name);
+    let mut out = output(r, name.len());
+    let lent = f.out.lend(&out, ahead);
+    let count: &mut u64 = n.numbers(r.word(), ahead);
+    let number = raw::method_name(method, lent, count);
+    t.note("method_name", number);
+    let want = match (row, out.get_mut(..name.len())) {
+        (None, _) => 2,
+        (_, None) => 5,
+        (_, Some(place)) => {
+            place.copy_from_slice(name);
+            0
+        }
+    };
+    let written = if want == 0 { name.len() as u64 } else { 0 };
+    same(|| format!("method_name {}", method), (number, *count, &lent[..]), (want, written, &out[..]))?;
+    sizes(method, f, r.word(), ahead, t)
 }
 
-fn choice(r: &mut Random, f: &mut Fences, t: &mut Tally) -> Result<(), String> {
+/// The method's row, as the boundary tells it.
+fn sizes(method: u64, f: &mut Lent, word: u64, ahead: bool, t: &mut Tally) -> Result<(), String> {
+    let told: &mut raw::Sizes = f.numbers[0].numbers(word, ahead);
+    let number = raw::method_sizes(method, told);
+    t.note("method_sizes", number);
+    let model = row(method).map_or((2, raw::Sizes::default()), |m| {
+        let sizes = raw::Sizes {
+            c_len: m.c_len as u64,
+            c_classical: m.c_classical as u64,
+            s_len: m.s_len as u64,
+            s_classical: m.s_classical as u64,
+            x_len: m.x_len as u64,
+            digest_len: m.digest_len as u64,
+            hybrid: m.hybrid.into(),
+            zero_check: m.zero_check.into(),
+        };
+        (0, sizes)
+    });
+    same(|| format!("method_sizes {}", method), (number, *told), model)
+}
+
+fn choice(r: &mut Random, f: &mut Lent, t: &mut Tally) -> Result<(), String> {
     let ahead = r.coin();
     let (client, server) = (payload(r), payload(r));
-    let [a, b, ..] = &mut f.0;
-    let core = raw::choose(a.lend(&client, ahead), b.lend(&server, ahead));
+    let ([a, b], [n, _]) = (&mut f.inputs, &mut f.numbers);
+    let told: &mut raw::Choice = n.numbers(r.word(), ahead);
+    let number = raw::choose(a.lend(&client, ahead), b.lend(&server, ahead), told);
     let model = plain::choose(&client, &server);
-    t.note("choose", core.number);
-    same(
-        || format!("choose {} {}", hex(&client), hex(&server)),
-        (core.number, core.method, part(core.host_key), core.ignore_client, core.ignore_server),
-        (model.number, model.method, model.host_key, model.ignore_client, model.ignore_server),
-    )
+    t.note("choose", number);
+    let choice = raw::Choice {
+        method: model.method.into(),
+        host_key: part(model.host_key),
+        ignore_client: model.ignore_client.into(),
+        ignore_server: model.ignore_server.into(),
+    };
+    same(|| format!("choose {} {}", hex(&client), hex(&server)), (number, *told), (model.number.into(), choice))?;
+    kept("choose", a, &client)?;
+    kept("choose", b, &server)
+}
+
+/// Zeros in all of a buffer, and in nothing beside it.
+fn wiped(r: &mut Random, f: &mut Lent) -> Result<(), String> {
+    let most = if r.once_in(16) { 3 * 4096 } else { 200 };
+    let n = r.below(most);
+    let bytes = r.bytes(n + 2);
+    let lent = f.out.lend(&bytes, r.coin());
+    raw::wipe(&mut lent[1..n + 1]);
+    let mut want = bytes.clone();
+    want[1..n + 1].fill(0);
+    same(|| format!("wipe of {} bytes", n), &lent[..], &want[..])?;
+    let lent = f.out.lend(&bytes, r.coin());
+    raw::wipe(lent);
+    same(|| format!("wipe of {} bytes at a fence", n), &lent[..], &vec![0; n + 2][..])
 }
 
 /// Bodies of 4 GiB, a byte under the limit and at it: refused by their length, so that nothing of them is read or written.
@@ -323,38 +493,29 @@ pub fn long(t: &mut Tally) -> Result<(), String> {
     zeros[0] = 1;
     for len in [(1 << 32) - 1, 1 << 32] {
         let mut out = [7; 16];
-        let core = raw::write_string(&mut out, &zeros[..len]);
-        t.note("write_string", core.number);
-        same(|| "write_string of 4 GiB".into(), written(core), plain::write_string(&mut [7; 16], &zeros[..len]))?;
-        let core = raw::write_mpint(&mut out, &zeros[..len]);
-        t.note("write_mpint", core.number);
-        same(|| "write_mpint of 4 GiB".into(), written(core), plain::write_mpint(&mut [7; 16], &zeros[..len]))?;
+        let mut count = 7;
+        let number = raw::write_string(&mut out, &zeros[..len], &mut count);
+        t.note("write_string", number);
+        let model = plain::write_string(&mut [7; 16], &zeros[..len]);
+        same(|| "write_string of 4 GiB".into(), (number, count), (model.number.into(), model.count as u64))?;
+        count = 7;
+        let number = raw::write_mpint(&mut out, &zeros[..len], &mut count);
+        t.note("write_mpint", number);
+        let model = plain::write_mpint(&mut [7; 16], &zeros[..len]);
+        same(|| "write_mpint of 4 GiB".into(), (number, count), (model.number.into(), model.count as u64))?;
         same(|| "the output of a refused writer".into(), out, [7; 16])?;
     }
     Ok(())
 }
 
-/// The method row, as the boundary tells it.
-pub fn rows() -> Result<(), String> {
-    for method in 0..=255 {
-        let core = raw::method_sizes(method);
-        let model = plain::method(method).map_or(raw::Sizes::default(), |m| raw::Sizes {
-            c_len: m.c_len,
-            c_classical: m.c_classical,
-            s_len: m.s_len,
-            s_classical: m.s_classical,
-            x_len: m.x_len,
-            digest_len: m.digest_len,
-            hybrid: m.hybrid,
-            zero_check: m.zero_check,
-        });
-        same(|| format!("method_sizes {}", method), core, model)?;
-    }
-    Ok(())
+/// Every method's row, and those of numbers that are none.
+pub fn rows(f: &mut Lent, t: &mut Tally) -> Result<(), String> {
+    let wide = [1 << 8, 1 << 16, 1 << 32, 1 << 63].into_iter().flat_map(|high| (0..=10).map(move |low| high | low));
+    (0..=600).chain(wide).chain([u64::MAX]).try_for_each(|method| sizes(method, f, u64::MAX, method % 2 == 0, t))
 }
 
-/// One round: a string, an mpint, a name, a KEXINIT read, one written, and a choice.
-pub fn round(seed: u64, index: u64, f: &mut Fences, t: &mut Tally) -> Result<(), String> {
+/// One round: a string, an mpint, a method, a KEXINIT read, one written, a choice, and a buffer wiped.
+pub fn round(seed: u64, index: u64, f: &mut Lent, t: &mut Tally) -> Result<(), String> {
     let mut r = Random::new(seed, index);
     let r = &mut r;
     strings(r, f, t)
@@ -363,5 +524,6 @@ pub fn round(seed: u64, index: u64, f: &mut Fences, t: &mut Tally) -> Result<(),
         .and_then(|()| reader(r, f, t))
         .and_then(|()| writer(r, f, t))
         .and_then(|()| choice(r, f, t))
+        .and_then(|()| wiped(r, f))
         .map_err(|e| format!("seed {}, round {}: {}", seed, index, e))
 }

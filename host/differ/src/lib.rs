@@ -3,6 +3,8 @@ pub mod calls;
 pub mod codecs;
 pub mod fence;
 pub mod lists;
+pub mod model;
 pub mod random;
 pub mod sha2;
+pub mod stored;
 pub mod tally;

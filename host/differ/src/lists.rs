@@ -1,243 +1,193 @@
-//! A list of calls on both: after each, every number, count, part, byte of the record, of the room and of the outputs is compared.
-use crate::calls::{self, Call, Field};
-use crate::fence::Fence;
+//! A list of calls on both: after each, every number, all that was told, and every byte of the exchange, of the room, of the
+//! outputs and of the inputs is compared.
+use crate::calls::{self, Call};
+use crate::fence::{Fence, Numbers};
+use crate::model::{Given, Side};
 use crate::random::Random;
+use crate::stored::{exchange_of, forge, EXCHANGE};
 use crate::tally::Tally;
-use castulfrisa::raw::{self, Lengths, Record};
-use plain::{Classical, Exchange, Kem, Part, Stage};
+use castulfrisa::raw;
+use plain::Stage;
 
-pub const BLANK: Record = Record {
-    stage: 6,
-    fail: 0,
-    role: 0,
-    method: 0,
-    lens: Lengths { vc: 0, vs: 0, ic: 0, is: 0, ks: 0, c: 0, s: 0 },
-    k: [0; 71],
-};
-
-/// The exchange of a record; none where no exchange has it.
-pub fn exchange_of(r: &Record) -> Option<Exchange> {
-    let stage = match (r.stage, r.fail) {
-        (0, 0) => Stage::Started,
-        (1, 0) => Stage::OwnC,
-        (2, 0) => Stage::Init,
-        (3, 0) => Stage::Reply,
-        (4, 0) => Stage::Secret,
-        (5, 0) => Stage::Complete,
-        (6, n) => Stage::Failed(n),
-        _ => return None,
-    };
-    let l = &r.lens;
-    Some(Exchange { role: r.role, method: r.method, stage, lens: [l.vc, l.vs, l.ic, l.is, l.ks, l.c, l.s], k: r.k })
-}
-
-pub fn record_of(e: &Exchange) -> Record {
-    let (stage, fail) = match e.stage {
-        Stage::Started => (0, 0),
-        Stage::OwnC => (1, 0),
-        Stage::Init => (2, 0),
-        Stage::Reply => (3, 0),
-        Stage::Secret => (4, 0),
-        Stage::Complete => (5, 0),
-        Stage::Failed(n) => (6, n),
-    };
-    let [vc, vs, ic, is, ks, c, s] = e.lens;
-    Record { stage, fail, role: e.role, method: e.method, lens: Lengths { vc, vs, ic, is, ks, c, s }, k: e.k }
-}
-
-pub fn forged(mut r: Record, field: Field, to: usize) -> Record {
-    match field {
-        Field::Role => r.role = to as u8,
-        Field::Method => r.method = to as u8,
-        Field::Stage => r.stage = to as u8,
-        Field::Fail => r.fail = to as u8,
-        Field::K(i) => r.k[i] = to as u8,
-        Field::Length(0) => r.lens.vc = to,
-        Field::Length(1) => r.lens.vs = to,
-        Field::Length(2) => r.lens.ic = to,
-        Field::Length(3) => r.lens.is = to,
-        Field::Length(4) => r.lens.ks = to,
-        Field::Length(5) => r.lens.c = to,
-        Field::Length(_) => r.lens.s = to,
-    }
-    r
-}
-
-/// The KEM's outcome for the plain implementation; a number that is none is an outcome of a wrong form, as a wrong presence is.
-pub fn kem_of(method: u8, kem: u8) -> Kem {
-    match kem {
-        0 => Kem::Absent,
-        1 => Kem::Failed,
-        2 => Kem::Done,
-        _ if plain::method(method).is_some_and(|m| m.hybrid) => Kem::Absent,
-        _ => Kem::Done,
-    }
-}
-
-/// What a call gave, on either side: number, counts, the parts of its payload, and the record after it.
-#[derive(Clone, Copy, Debug, PartialEq)]
-pub struct Given {
-    pub number: u8,
-    pub count: usize,
-    pub second: usize,
-    pub parts: [(usize, usize); 4],
-    pub record: Record,
-}
-
-/// One side's exchange, room and outputs.
-pub struct Side {
-    pub record: Record,
-    pub room: Vec<u8>,
-    pub out: Vec<u8>,
-    pub k_out: Vec<u8>,
-}
-
-impl Side {
-    pub fn new() -> Side {
-        Side { record: BLANK, room: Vec::new(), out: Vec::new(), k_out: Vec::new() }
-    }
-
-    /// Lends the outputs of a call afresh.
-    fn lend(&mut self, call: &Call) {
-        self.out.clear();
-        self.k_out.clear();
-        match call {
-            Call::OwnC { out, .. } => self.out = out.bytes(),
-            Call::Sign { out, k_out, .. } => {
-                self.out = out.bytes();
-                self.k_out = k_out.bytes();
-            }
-            Call::Verdict { k_out, .. } => self.k_out = k_out.bytes(),
-            _ => {}
-        }
-    }
-
-    /// What is no call of the core: a room lent, or somebody's hand in the room or the record.
-    fn between(&mut self, call: &Call) {
-        match call {
-            Call::Room(f) => self.room = f.bytes(),
-            Call::Poke(at, bytes) => self.room[*at..at + bytes.len()].copy_from_slice(bytes),
-            Call::Forge(field, to) => self.record = forged(self.record, *field, *to),
-            _ => {}
-        }
-    }
-}
-
-impl Default for Side {
-    fn default() -> Side {
-        Side::new()
-    }
-}
-
-fn pair(p: Part) -> (usize, usize) {
-    (p.start, p.len)
-}
-
-fn raw_pair(p: raw::Part) -> (usize, usize) {
-    (p.start, p.len)
-}
-
-/// The call on the plain implementation. A record that no exchange has is answered 1, and nothing changes.
-pub fn on_plain(side: &mut Side, call: &Call) -> Given {
-    side.lend(call);
-    side.between(call);
-    let none = [(0, 0); 4];
-    if let Call::Start { role, method, vc, vs, ic, is } = call {
-        let a = plain::start(*role, *method, vc, vs, ic, is, &mut side.room);
-        side.record = record_of(&a.exchange);
-        return Given { number: a.number, count: a.count, second: a.second, parts: none, record: side.record };
-    }
-    if matches!(call, Call::Room(_) | Call::Poke(..) | Call::Forge(..)) {
-        return Given { number: 0, count: 0, second: 0, parts: none, record: side.record };
-    }
-    let Some(e) = exchange_of(&side.record) else {
-        return Given { number: 1, count: 0, second: 0, parts: none, record: side.record };
-    };
-    // the parts may be asked for with any payload; other calls have none
-    let parts = match call {
-        Call::Init(p) | Call::Reply(p) => {
-            let r = plain::reply_parts(&e, &side.room, p);
-            [pair(plain::init_c(&e, &side.room, p)), pair(r[0]), pair(r[1]), pair(r[2])]
-        }
-        _ => none,
-    };
-    let a = match call {
-        Call::OwnC { c, .. } => plain::own_c(e, &mut side.room, c, &mut side.out),
-        Call::Init(p) => plain::read_init(e, &mut side.room, p),
-        Call::Reply(p) => plain::read_reply(e, &mut side.room, p),
-        Call::Secret { given, x, kem, digest, ks, s } => {
-            let classical = given.map_or(Classical::Failed, Classical::Given);
-            plain::take_secret(e, &mut side.room, classical, x, kem_of(e.method, *kem), digest, ks, s)
-        }
-        Call::Sign { signature, .. } => plain::sign(e, &side.room, signature, &mut side.out, &mut side.k_out),
-        Call::Verdict { signature, host_key, .. } => plain::verdict(e, &mut side.room, *signature, *host_key, &mut side.k_out),
-        _ => unreachable!("no step"),
-    };
-    side.record = record_of(&a.exchange);
-    Given { number: a.number, count: a.count, second: a.second, parts, record: side.record }
-}
-
-/// The fenced buffers of a call: the room, two outputs, and up to four inputs.
+/// What is lent to the core, each buffer at a fence. Exchange and room stay where they are through a list.
 #[derive(Default)]
-pub struct Fences {
+pub struct Lent {
+    exchange: Fence,
     room: Fence,
     out: Fence,
     k_out: Fence,
     inputs: [Fence; 4],
+    numbers: Fence,
+    ahead: Ahead,
+    kept: Kept,
 }
 
-/// The call on the compiled core, every lent buffer between fences.
-pub fn on_core(side: &mut Side, call: &Call, f: &mut Fences, ahead: bool) -> Given {
-    side.lend(call);
-    side.between(call);
-    let none = [(0, 0); 4];
-    if matches!(call, Call::Room(_) | Call::Poke(..) | Call::Forge(..)) {
-        return Given { number: 0, count: 0, second: 0, parts: none, record: side.record };
+/// Copies of exchange and room that somebody kept, one after each call of a list. Their memory stays from list to list.
+#[derive(Default)]
+struct Kept {
+    copies: Vec<(Vec<u8>, Vec<u8>)>,
+    count: usize,
+}
+
+impl Kept {
+    fn add(&mut self, exchange: &[u8], room: &[u8]) {
+        if self.count == self.copies.len() {
+            self.copies.push(Default::default());
+        }
+        let (kept, kept_room) = &mut self.copies[self.count];
+        kept.clear();
+        kept.extend_from_slice(exchange);
+        kept_room.clear();
+        kept_room.extend_from_slice(room);
+        self.count += 1;
     }
-    let r = side.record;
-    let room = f.room.lend(&side.room, ahead);
-    let out = f.out.lend(&side.out, ahead);
-    let k_out = f.k_out.lend(&side.k_out, ahead);
-    let [i0, i1, i2, i3] = &mut f.inputs;
-    let mut parts = none;
-    let a = match call {
-        Call::Start { role, method, vc, vs, ic, is } => {
-            raw::start(*role, *method, i0.lend(vc, ahead), i1.lend(vs, ahead), i2.lend(ic, ahead), i3.lend(is, ahead), room)
-        }
-        Call::OwnC { c, .. } => raw::own_c(r, room, i0.lend(c, ahead), out),
-        Call::Init(p) | Call::Reply(p) => {
-            let p = i0.lend(p, ahead);
-            parts = [
-                raw_pair(raw::init_c(r, room, p)),
-                raw_pair(raw::reply_host_key(r, room, p)),
-                raw_pair(raw::reply_s(r, room, p)),
-                raw_pair(raw::reply_signature(r, room, p)),
-            ];
-            match call {
-                Call::Init(_) => raw::read_init(r, room, p),
-                _ => raw::read_reply(r, room, p),
+}
+
+/// Which buffers of a list stand behind a fence; the others stand ahead of one.
+#[derive(Clone, Copy, Default)]
+struct Ahead {
+    exchange: bool,
+    room: bool,
+    others: bool,
+}
+
+/// A call for a part: exchange, room, payload.
+pub type PartEntry = fn(&[u8], &[u8], &[u8], &mut raw::Part) -> u64;
+
+fn six(words: [u64; 10]) -> [u64; 6] {
+    std::array::from_fn(|i| words[i])
+}
+
+impl Lent {
+    /// Lends an exchange and a room as the model has them, and forgets older ones.
+    fn begin(&mut self, r: &mut Random, side: &Side) {
+        self.kept.count = 0;
+        self.ahead = Ahead { exchange: r.coin(), room: r.coin(), others: r.coin() };
+        self.exchange.lend(&side.exchange, self.ahead.exchange);
+        self.room.lend(&side.room, self.ahead.room);
+    }
+
+    /// Lends the outputs of a call afresh, and does what is no call of the core.
+    fn before(&mut self, call: &Call) {
+        let Ahead { exchange, room, others } = self.ahead;
+        self.out.lend(&[], others);
+        self.k_out.lend(&[], others);
+        match call {
+            Call::Room(f) => {
+                self.room.lend(&f.bytes(), room);
             }
+            Call::Poke(at, bytes) => self.room.bytes_mut()[*at..at + bytes.len()].copy_from_slice(bytes),
+            Call::Forge(field, to) => forge(self.exchange.bytes_mut(), *field, *to),
+            Call::Lend(bytes) => {
+                self.exchange.lend(bytes, exchange);
+            }
+            Call::OwnC { out, .. } => {
+                self.out.lend(&out.bytes(), others);
+            }
+            Call::Sign { out, k_out, .. } => {
+                self.out.lend(&out.bytes(), others);
+                self.k_out.lend(&k_out.bytes(), others);
+            }
+            Call::Verdict { k_out, .. } => {
+                self.k_out.lend(&k_out.bytes(), others);
+            }
+            _ => {}
         }
-        Call::Secret { given, x, kem, digest, ks, s } => raw::take_secret(
-            r,
-            room,
-            given.is_some(),
-            given.unwrap_or(x.len()),
-            i0.lend(x, ahead),
-            *kem,
-            i1.lend(digest, ahead),
-            i2.lend(ks, ahead),
-            i3.lend(s, ahead),
-        ),
-        Call::Sign { signature, .. } => raw::sign(r, room, i0.lend(signature, ahead), out, k_out),
-        Call::Verdict { signature, host_key, .. } => raw::verdict(r, room, *signature, *host_key, k_out),
-        _ => unreachable!("no call"),
-    };
-    side.room.copy_from_slice(room);
-    side.out.copy_from_slice(out);
-    side.k_out.copy_from_slice(k_out);
-    side.record = a.record;
-    Given { number: a.number, count: a.count, second: a.second, parts, record: a.record }
+    }
+
+    /// The calls of their own for the four parts, where the call has a payload: number, start and length of each.
+    fn parts(&mut self, call: &Call, word: u64, tally: &mut Tally) -> [[u64; 3]; 4] {
+        let (Call::Init(payload) | Call::Reply(payload)) = call else { return Default::default() };
+        let entries: [(&str, PartEntry); 4] = [
+            ("init_c", raw::init_c),
+            ("reply_host_key", raw::reply_host_key),
+            ("reply_s", raw::reply_s),
+            ("reply_signature", raw::reply_signature),
+        ];
+        let payload = self.inputs[0].lend(payload, self.ahead.others);
+        entries.map(|(name, entry)| {
+            let part = self.numbers.numbers(word, self.ahead.others);
+            let number = entry(self.exchange.bytes(), self.room.bytes(), payload, part);
+            tally.note(name, number);
+            [number, part.start, part.len]
+        })
+    }
+
+    fn state(&mut self, word: u64, tally: &mut Tally) -> [u64; 5] {
+        let told: &mut raw::Told = self.numbers.numbers(word, self.ahead.others);
+        let number = raw::state(self.exchange.bytes(), told);
+        tally.note("state", number);
+        [number, told.stage, told.fail, told.role, told.method]
+    }
+
+    /// The call on the core. The lent numbers hold `word` until it fills them in.
+    fn call(&mut self, call: &Call, word: u64, tally: &mut Tally) -> Given {
+        self.before(call);
+        let mut given = Given::default();
+        let ahead = self.ahead.others;
+        let [i0, i1, i2, i3] = &mut self.inputs;
+        let (exchange, room) = (self.exchange.bytes_mut(), self.room.bytes_mut());
+        let (out, k_out, numbers) = (self.out.bytes_mut(), self.k_out.bytes_mut(), &mut self.numbers);
+        given.number = match call {
+            Call::Start { role, method, vc, vs, ic, is } => {
+                let (vc, vs, ic, is) = (i0.lend(vc, ahead), i1.lend(vs, ahead), i2.lend(ic, ahead), i3.lend(is, ahead));
+                raw::start(exchange, *role, *method, vc, vs, ic, is, room)
+            }
+            Call::OwnC { c, .. } => {
+                let count: &mut u64 = numbers.numbers(word, ahead);
+                let number = raw::own_c(exchange, room, i0.lend(c, ahead), out, count);
+                given.told = six(count.words());
+                number
+            }
+            Call::Init(p) => {
+                let part: &mut raw::Part = numbers.numbers(word, ahead);
+                let number = raw::read_init(exchange, room, i0.lend(p, ahead), part);
+                given.told = six(part.words());
+                number
+            }
+            Call::Reply(p) => {
+                let parts: &mut raw::Reply = numbers.numbers(word, ahead);
+                let number = raw::read_reply(exchange, room, i0.lend(p, ahead), parts);
+                given.told = six(parts.words());
+                number
+            }
+            Call::Secret { given: yes, x_count, x, kem, digest, ks, s } => {
+                let (x, digest, ks, s) = (i0.lend(x, ahead), i1.lend(digest, ahead), i2.lend(ks, ahead), i3.lend(s, ahead));
+                let count: &mut u64 = numbers.numbers(word, ahead);
+                let number = raw::take_secret(exchange, room, *yes, *x_count, x, *kem, digest, ks, s, count);
+                given.told = six(count.words());
+                number
+            }
+            Call::Sign { signature, .. } => {
+                let counts: &mut raw::Signed = numbers.numbers(word, ahead);
+                let number = raw::sign(exchange, room, i0.lend(signature, ahead), out, k_out, counts);
+                given.told = six(counts.words());
+                number
+            }
+            Call::Verdict { signature, host_key, .. } => {
+                let count: &mut u64 = numbers.numbers(word, ahead);
+                let number = raw::verdict(exchange, room, *signature, *host_key, k_out, count);
+                given.told = six(count.words());
+                number
+            }
+            Call::Room(_) | Call::Poke(..) | Call::Forge(..) | Call::Lend(_) | Call::Old { .. } => 0,
+        };
+        given.state = self.state(word, tally);
+        given
+    }
+
+    /// The first input that the core wrote to.
+    fn written_to(&self, call: &Call) -> Option<usize> {
+        let inputs: [&[u8]; 4] = match call {
+            Call::Start { vc, vs, ic, is, .. } => [vc, vs, ic, is],
+            Call::OwnC { c: one, .. } | Call::Sign { signature: one, .. } | Call::Init(one) | Call::Reply(one) => {
+                [one, &[], &[], &[]]
+            }
+            Call::Secret { x, digest, ks, s, .. } => [x, digest, ks, s],
+            _ => return None,
+        };
+        inputs.iter().zip(&self.inputs).position(|(given, fence)| !given.is_empty() && *given != fence.bytes())
+    }
 }
 
 pub fn entry(call: &Call) -> Option<&'static str> {
@@ -254,55 +204,161 @@ pub fn entry(call: &Call) -> Option<&'static str> {
 }
 
 /// What a run of lists saw, beside the numbers.
-#[derive(Default)]
-pub struct Seen {
-    pub calls: u64,
-    pub complete: u64,
-    pub faults: u64,
-    pub forged: u64,
-    pub strange: u64,
-    pub pokes: u64,
+#[derive(Clone, Copy)]
+pub enum Sight {
+    Call,
+    Complete,
+    Fault,
+    Forged,
+    Lent,
+    Poked,
+    OtherLength,
+    OtherMark,
+    OtherStage,
+    OtherFail,
+    Old,
+    OldRoom,
+    Revived,
+    WideRole,
+    WideMethod,
+    WideGiven,
+    WideKem,
+    WideSignature,
+    WideHostKey,
 }
 
-/// The generator's view of a record that no exchange has: any exchange serves.
-fn stand_in(r: &Record) -> Exchange {
-    exchange_of(r).unwrap_or(Exchange { role: r.role, method: r.method, ..Exchange::default() })
+const SIGHTS: [(Sight, &str); 19] = [
+    (Sight::Call, "calls"),
+    (Sight::Complete, "exchanges complete"),
+    (Sight::Fault, "peer faults"),
+    (Sight::Forged, "numbers of an exchange forged"),
+    (Sight::Lent, "times other bytes lent for it"),
+    (Sight::Poked, "writes into a room"),
+    (Sight::OtherLength, "calls on an exchange of another length"),
+    (Sight::OtherMark, "on one with another mark"),
+    (Sight::OtherStage, "with a stage that there is not"),
+    (Sight::OtherFail, "with a fail number though it had not failed"),
+    (Sight::Old, "older copies of an exchange put back"),
+    (Sight::OldRoom, "of them with the older room"),
+    (Sight::Revived, "of them where it had failed and lives again"),
+    (Sight::WideRole, "roles above 255"),
+    (Sight::WideMethod, "methods"),
+    (Sight::WideGiven, "outcomes of the classical primitive"),
+    (Sight::WideKem, "outcomes of the KEM"),
+    (Sight::WideSignature, "verdicts on a signature"),
+    (Sight::WideHostKey, "verdicts on a host key"),
+];
+
+#[derive(Default)]
+pub struct Seen([u64; SIGHTS.len()]);
+
+impl Seen {
+    fn add(&mut self, sight: Sight, when: bool) {
+        self.0[sight as usize] += when as u64;
+    }
+
+    /// A call and its number, and the bytes that it left for the exchange.
+    fn note(&mut self, call: &Call, number: u64, exchange: &[u8]) {
+        self.add(Sight::Forged, matches!(call, Call::Forge(..)));
+        self.add(Sight::Lent, matches!(call, Call::Lend(_)));
+        self.add(Sight::Poked, matches!(call, Call::Poke(..)));
+        let wide = |n: u64| n > 255;
+        match call {
+            Call::Start { role, method, .. } => {
+                self.add(Sight::WideRole, wide(*role));
+                self.add(Sight::WideMethod, wide(*method));
+            }
+            Call::Secret { given, kem, .. } => {
+                self.add(Sight::WideGiven, wide(*given));
+                self.add(Sight::WideKem, wide(*kem));
+            }
+            Call::Verdict { signature, host_key, .. } => {
+                self.add(Sight::WideSignature, wide(*signature));
+                self.add(Sight::WideHostKey, wide(*host_key));
+            }
+            _ => {}
+        }
+        if entry(call).is_none() {
+            return;
+        }
+        self.add(Sight::Call, true);
+        self.add(Sight::Fault, (10..=18).contains(&number));
+        self.add(Sight::Complete, matches!(call, Call::Sign { .. } | Call::Verdict { .. }) && number == 0);
+        if exchange_of(exchange).is_none() {
+            let why = match exchange {
+                _ if exchange.len() != EXCHANGE => Sight::OtherLength,
+                [1, stage, ..] if *stage > 6 => Sight::OtherStage,
+                [1, ..] => Sight::OtherFail,
+                _ => Sight::OtherMark,
+            };
+            self.add(why, true);
+        }
+    }
+
+    /// Prints what was seen; false where something never was.
+    pub fn print(&self) -> bool {
+        for (sight, what) in SIGHTS {
+            println!("{:>9} {}", self.0[sight as usize], what);
+        }
+        self.0.iter().all(|count| *count > 0)
+    }
+}
+
+fn differs(what: &str, have: &[u8], want: &[u8]) -> Option<String> {
+    (have != want).then(|| format!("the {} differs first at byte {}", what, first(have, want)))
 }
 
 /// One list; the first difference, told.
-pub fn list(seed: u64, index: u64, f: &mut Fences, tally: &mut Tally, seen: &mut Seen) -> Result<(), String> {
+pub fn list(seed: u64, index: u64, core: &mut Lent, tally: &mut Tally, seen: &mut Seen) -> Result<(), String> {
     let mut r = Random::new(seed, index);
-    let (mut core, mut model) = (Side::new(), Side::new());
+    let mut model = Side::new();
+    core.begin(&mut r, &model);
     let length = r.range(2, 12);
+    // in some lists somebody keeps a copy of exchange and room after each call, and puts one back now and then
+    let keeps = r.once_in(5);
     for i in 0..length {
         let call = match i {
             0 => Call::Room(calls::room(&mut r)),
             1 => calls::start(&mut r),
-            _ => calls::next(&mut r, &stand_in(&model.record), model.room.len()),
+            _ => calls::next(&mut r, &model.exchange, model.room.len(), core.kept.count),
         };
-        let want = on_plain(&mut model, &call);
-        let have = on_core(&mut core, &call, f, r.coin());
+        if let Call::Old { copy, room } = call {
+            let (old, old_room) = &core.kept.copies[copy];
+            let lives = |bytes: &[u8]| exchange_of(bytes).map(|e| !matches!(e.stage, Stage::Failed(_)));
+            seen.add(Sight::Old, true);
+            seen.add(Sight::OldRoom, room);
+            seen.add(Sight::Revived, lives(&model.exchange) == Some(false) && lives(old) == Some(true));
+            model.exchange.clone_from(old);
+            core.exchange.lend(old, core.ahead.exchange);
+            if room {
+                model.room.clone_from(old_room);
+                core.room.lend(old_room, core.ahead.room);
+            }
+        }
+        let word = r.word();
+        let parts = core.parts(&call, word, tally);
+        // the calls for parts have changed nothing, and the model has not begun
+        let told = differs("exchange of a call for a part", core.exchange.bytes(), &model.exchange)
+            .or_else(|| differs("room of a call for a part", core.room.bytes(), &model.room));
+        let want = model.call(&call);
+        let have = Given { parts, ..core.call(&call, word, tally) };
         if let Some(name) = entry(&call) {
             tally.note(name, have.number);
-            seen.calls += 1;
-            seen.faults += (10..=18).contains(&have.number) as u64;
-            seen.complete += (matches!(call, Call::Sign { .. } | Call::Verdict { .. }) && have.number == 0) as u64;
-            seen.strange += exchange_of(&core.record).is_none() as u64;
         }
-        seen.forged += matches!(call, Call::Forge(..)) as u64;
-        seen.pokes += matches!(call, Call::Poke(..)) as u64;
-        let what = if have != want {
-            format!("the core gives {:?}\nthe document  {:?}", have, want)
-        } else if core.room != model.room {
-            format!("the room differs first at byte {}", first(&core.room, &model.room))
-        } else if core.out != model.out {
-            format!("the output differs first at byte {}", first(&core.out, &model.out))
-        } else if core.k_out != model.k_out {
-            format!("the K output differs first at byte {}", first(&core.k_out, &model.k_out))
-        } else {
-            continue;
-        };
-        return Err(format!("seed {}, list {}, call {}: {:?}\n{}", seed, index, i, call, what));
+        seen.note(&call, have.number, &model.exchange);
+        let what = told
+            .or_else(|| (have != want).then(|| format!("the core gives {:?}\nthe document  {:?}", have, want)))
+            .or_else(|| differs("exchange", core.exchange.bytes(), &model.exchange))
+            .or_else(|| differs("room", core.room.bytes(), &model.room))
+            .or_else(|| differs("output", core.out.bytes(), &model.out))
+            .or_else(|| differs("K output", core.k_out.bytes(), &model.k_out))
+            .or_else(|| core.written_to(&call).map(|i| format!("input {} was written to", i + 1)));
+        if let Some(what) = what {
+            return Err(format!("seed {}, list {}, call {}: {:?}\n{}", seed, index, i, call, what));
+        }
+        if keeps {
+            core.kept.add(&model.exchange, &model.room);
+        }
     }
     Ok(())
 }

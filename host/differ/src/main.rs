@@ -1,6 +1,8 @@
 //! differ [--lists N] [--rounds N] [--seed N] [--list I | --round I] [--progress]
-//! Random lists of calls and rounds of codecs, KEXINIT and choice on the compiled core and on the plain implementation. The first
-//! difference ends the run with status 1; so does a number that an entry never gave, or that is not its own.
+//!
+//! Random lists of calls and rounds of codecs, methods, KEXINIT and choice on the compiled core and on the plain implementation. The
+//! first difference ends the run with status 1; so does a number that an entry never gave, or that is not its own, and a thing to try
+//! that was never tried. A byte touched outside of what was lent ends it with a signal.
 use differ::{codecs, lists, tally::Tally};
 use std::process::ExitCode;
 
@@ -36,45 +38,46 @@ fn asked() -> Result<Asked, String> {
 }
 
 fn run(a: &Asked) -> Result<bool, String> {
+    if !castulfrisa::same_version() {
+        return Err("the library is of another version".into());
+    }
     let mut tally = Tally::default();
     let mut seen = lists::Seen::default();
-    let mut fences = lists::Fences::default();
+    let mut lent = lists::Lent::default();
     if let Some(i) = a.only_list {
-        return lists::list(a.seed, i, &mut fences, &mut tally, &mut seen).map(|()| true);
+        return lists::list(a.seed, i, &mut lent, &mut tally, &mut seen).map(|()| true);
     }
-    let mut codec_fences = codecs::Fences::default();
+    let mut lent_to_codecs = codecs::Lent::default();
     if let Some(i) = a.only_round {
-        return codecs::round(a.seed, i, &mut codec_fences, &mut tally).map(|()| true);
+        return codecs::round(a.seed, i, &mut lent_to_codecs, &mut tally).map(|()| true);
     }
     let tell = |what: &str, i: u64, of: u64| {
-        if a.progress && (i + 1) % 100_000 == 0 {
+        if a.progress && (i + 1).is_multiple_of(100_000) {
             println!("{} of {} {}", i + 1, of, what);
         }
     };
-    codecs::rows()?;
+    codecs::rows(&mut lent_to_codecs, &mut tally)?;
     codecs::long(&mut tally)?;
     for i in 0..a.rounds {
-        codecs::round(a.seed, i, &mut codec_fences, &mut tally)?;
+        codecs::round(a.seed, i, &mut lent_to_codecs, &mut tally)?;
         tell("rounds", i, a.rounds);
     }
     for i in 0..a.lists {
-        lists::list(a.seed, i, &mut fences, &mut tally, &mut seen)?;
+        lists::list(a.seed, i, &mut lent, &mut tally, &mut seen)?;
         tell("lists", i, a.lists);
     }
     println!("seed {}: {} rounds of codecs, KEXINIT and choice, {} lists of calls, no difference", a.seed, a.rounds, a.lists);
-    println!(
-        "lists: {} calls, {} exchanges complete, {} peer faults, {} numbers of a record forged, {} calls left a record that no exchange has, {} writes into a room",
-        seen.calls, seen.complete, seen.faults, seen.forged, seen.strange, seen.pokes
-    );
+    println!("lists:");
+    let all = seen.print();
     println!("share of each number among an entry's answers:");
-    Ok(tally.print(|_| true))
+    Ok(tally.print() && all)
 }
 
 fn main() -> ExitCode {
     match asked().and_then(|a| run(&a)) {
         Ok(true) => ExitCode::SUCCESS,
         Ok(false) => {
-            eprintln!("differ: an entry gave a number that is not its own, or never gave one that is");
+            eprintln!("differ: an entry gave a number that is not its own or never gave one that is, or something was never tried");
             ExitCode::FAILURE
         }
         Err(what) => {

@@ -1,44 +1,57 @@
-//! How often each entry gave each number, held to the numbers that document 01 lets it give.
+//! How often each entry gave each number, held to the numbers that document 01 and the header let it give.
 
-pub const ENTRIES: [(&str, &[u8]); 16] = [
+/// What INIT's and REPLY's steps answer, and the calls that tell of them.
+const READ: &[u64] = &[0, 1, 3, 10, 11, 12, 13, 14, 15];
+
+pub const ENTRIES: [(&str, &[u64]); 23] = [
     ("read_string", &[0, 12]),
     ("write_string", &[0, 4, 5]),
     ("read_mpint", &[0, 12, 22]),
     ("write_mpint", &[0, 4, 5]),
     ("method_number", &[0, 1, 2, 3, 4, 5, 6, 7, 8, 9]),
+    ("method_name", &[0, 2, 5]),
+    ("method_sizes", &[0, 2]),
     ("write_kexinit", &[0, 4, 5]),
     ("open_list", &[0, 4, 10, 11, 12, 13]),
     ("next_name", &[0, 19]),
     ("choose", &[0, 10, 11, 12, 13, 19, 20, 21]),
-    ("start", &[0, 2, 3, 4]),
+    ("start", &[0, 1, 2, 3, 4]),
     ("own_c", &[0, 1, 3, 4, 5]),
-    ("read_init", &[0, 1, 3, 10, 11, 12, 13, 14, 15]),
-    ("read_reply", &[0, 1, 3, 10, 11, 12, 13, 14, 15]),
+    ("read_init", READ),
+    ("read_reply", READ),
     ("take_secret", &[0, 1, 3, 4, 16, 17]),
     ("sign", &[0, 1, 3, 4, 5]),
     ("verdict", &[0, 1, 3, 5, 18]),
+    ("init_c", READ),
+    ("reply_host_key", READ),
+    ("reply_s", READ),
+    ("reply_signature", READ),
+    ("state", &[0, 1]),
 ];
 
-pub struct Tally([[u64; 256]; ENTRIES.len()]);
+/// Counts by number; the last one is for all that are above.
+const NUMBERS: usize = 256;
+
+pub struct Tally([[u64; NUMBERS]; ENTRIES.len()]);
 
 impl Default for Tally {
     fn default() -> Tally {
-        Tally([[0; 256]; ENTRIES.len()])
+        Tally([[0; NUMBERS]; ENTRIES.len()])
     }
 }
 
 impl Tally {
-    pub fn note(&mut self, entry: &str, number: u8) {
+    pub fn note(&mut self, entry: &str, number: u64) {
         let i = ENTRIES.iter().position(|e| e.0 == entry).expect("an entry of the table");
-        self.0[i][number as usize] += 1;
+        self.0[i][number.min(NUMBERS as u64 - 1) as usize] += 1;
     }
 
     /// Prints the shares; false where an entry gave a number that is not its own, or never gave one that is.
-    pub fn print(&self, only: impl Fn(&str) -> bool) -> bool {
+    pub fn print(&self) -> bool {
         let mut good = true;
-        for ((name, numbers), counts) in ENTRIES.iter().zip(&self.0).filter(|(e, _)| only(e.0)) {
+        for ((name, numbers), counts) in ENTRIES.iter().zip(&self.0) {
             let total: u64 = counts.iter().sum();
-            print!("{:14}{:>9} calls:", name, total);
+            print!("{:16}{:>9} calls:", name, total);
             for &n in *numbers {
                 let c = counts[n as usize];
                 let share = 100.0 * c as f64 / total.max(1) as f64;
@@ -49,7 +62,7 @@ impl Tally {
                 }
                 good &= c > 0;
             }
-            for n in (0..=255u8).filter(|n| counts[*n as usize] > 0 && !numbers.contains(n)) {
+            for n in (0..NUMBERS).filter(|n| counts[*n] > 0 && !numbers.contains(&(*n as u64))) {
                 print!("  {} NOT ITS OWN", n);
                 good = false;
             }

@@ -84,7 +84,7 @@ fn name_len(list: &[u8]) -> Option<usize> {
 }
 
 /// A list is empty or names parted by single commas.
-pub(crate) fn list_is_good(mut list: &[u8]) -> bool {
+pub fn list_is_good(mut list: &[u8]) -> bool {
     if list.is_empty() {
         return true;
     }

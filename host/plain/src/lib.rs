@@ -17,6 +17,6 @@ pub use exchange::{
     init_c, own_c, read_init, read_reply, reply_parts, sign, start, take_secret, verdict, Answer, Classical, Exchange,
     Kem, Stage, INIT_OUT, K_RECORD, REPLY_OUT, ROOM,
 };
-pub use kexinit::{next_name, open_list, write_kexinit, Cursor, Next, Opened};
+pub use kexinit::{list_is_good, next_name, open_list, write_kexinit, Cursor, Next, Opened};
 pub use methods::{method, method_number, Method};
 pub use wire::{read_mpint, read_string, write_mpint, write_string, MpintRead, Part, StringRead, Written};

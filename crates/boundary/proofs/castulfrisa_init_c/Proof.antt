@@ -7,7 +7,7 @@ init-part-requires : tie.Need-init-part-requires
 init-part-requires c κs = search needs
 
 returns : tie.Need-returns
-returns c = c .init-part .ensures
+returns c = search needs
 
 pub castulfrisa-init-c-spec : {M : Type 1} → statement M
 castulfrisa-init-c-spec = tie.close (tie.spec init-part-requires returns)

@@ -7,7 +7,7 @@ reply-part-requires : tie.Need-reply-part-requires
 reply-part-requires c κs = search needs
 
 returns : tie.Need-returns
-returns c = c .reply-part .ensures
+returns c = search needs
 
 pub castulfrisa-reply-s-spec : {M : Type 1} → statement M
 castulfrisa-reply-s-spec = tie.close (tie.spec reply-part-requires returns)

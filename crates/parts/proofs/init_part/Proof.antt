@@ -3,33 +3,25 @@ use borrow.Author.Needs.{needs}
 use native.Mathlib.Omega.{arith}
 use denote.Ref.{now}
 use Rattle.parts.proofs.StepPartLaws.{part-refused, part-accepted}
-use Rattle.exchange.proofs.StepLaws.{init-number}
 use Rattle.exchange.specs.Steps.{init}
 use Rattle.parts.proofs.init_part.Statement.{statement}
 use Rattle.parts.proofs.init_part.Tie as tie
 
-init-cause-requires : tie.Need-init-cause-requires
-init-cause-requires c κs = search needs
-
-step-number-requires : tie.Need-step-number-requires
-step-number-requires c κs = search needs
+init-number-requires : tie.Need-init-number-requires
+init-number-requires c κs = search needs
 
 returns : tie.Need-returns
 returns c =
-    let a = c .before .before .before .before .before .args in
-    let f = init-number (a .e) (now (a .room)) (now (a .payload)) _ _ (c .before .step-number .ensures) (c .before .before .init-cause .ensures) in
-    part-refused (a .e) (now (a .room)) (init (now (a .payload))) (now (a .payload)) (a .i) _ f (c .if1 .taken)
+    let a = c .before .before .before .before .args in
+    part-refused (a .e) (now (a .room)) (init (now (a .payload))) (now (a .payload)) (a .i) _ (c .before .init-number .ensures) (c .if1 .taken)
 
 string-part-requires : tie.Need-string-part-requires
 string-part-requires c κs = search needs
 
 returns-2 : tie.Need-returns-2
 returns-2 c =
-    let a = c .before .before .before .before .before .before .args in
-    let f = init-number (a .e) (now (a .room)) (now (a .payload)) _ _ (c .before .before .step-number .ensures) (c .before .before .before .init-cause .ensures) in
-    part-accepted (a .e) (now (a .room)) (init (now (a .payload))) (now (a .payload)) (a .i) _ f (omega arith) _ (c .string-part .ensures)
+    let a = c .before .before .before .before .before .args in
+    part-accepted (a .e) (now (a .room)) (init (now (a .payload))) (now (a .payload)) (a .i) _ (c .before .before .init-number .ensures) (omega arith) _ (c .string-part .ensures)
 
 pub init-part-spec : {M : Type 1} → statement M
-init-part-spec =
-    tie.close
-    (tie.spec init-cause-requires step-number-requires returns string-part-requires returns-2)
+init-part-spec = tie.close (tie.spec init-number-requires returns string-part-requires returns-2)

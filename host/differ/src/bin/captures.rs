@@ -1,9 +1,11 @@
-//! captures FOLDER: every captured exchange through the boundary: both KEXINITs read and written again, the choice, and in both roles
-//! every step, the messages, K, the hash input, and H.
-use castulfrisa::raw::{self, Lengths, Record};
-use castulfrisa::{choose, method_sizes, open_list, write_kexinit};
-use castulfrisa::{Classical, Exchange, Kem, Own, Refusal, Role, INIT, K, REPLY, ROOM};
+//! captures FOLDER: every captured exchange through the boundary: both KEXINITs read and written again, the choice, and in both
+//! roles every step, the messages, K, the hash input, and H.
+use castulfrisa::{choose, open_list, raw, same_version, write_kexinit, EXCHANGE, INIT, REPLY, ROOM};
+use castulfrisa::{Classical, Client, Greeting, Kem, List, Method, Own, Refusal, Role, Server, Stopped, K};
+use differ::lists::PartEntry;
 use differ::sha2::digest;
+use differ::stored::bytes_of;
+use plain::Stage;
 use std::collections::HashMap;
 use std::path::Path;
 use std::process::ExitCode;
@@ -46,29 +48,33 @@ fn held(what: &str, have: &[u8], want: &[u8]) -> Result<(), String> {
 fn rewritten(payload: &[u8]) -> Result<usize, String> {
     let mut lists = Vec::new();
     let mut count = 0;
-    for list in 1..=10 {
+    for list in List::ALL {
         let names: Result<Vec<&[u8]>, Refusal> = open_list(payload, list).map_err(|r| r.to_string())?.names.collect();
-        let names = names.map_err(|r| format!("list {}: {}", list, r))?;
+        let names = names.map_err(|r| format!("list {:?}: {}", list, r))?;
         count += names.len();
         lists.push(names.join(&b','));
     }
     let lists: Vec<&[u8]> = lists.iter().map(|l| &l[..]).collect();
-    let o = open_list(payload, 1).map_err(|r| r.to_string())?;
+    let o = open_list(payload, List::Kex).map_err(|r| r.to_string())?;
     let mut out = [LENT; 4096];
-    let n = write_kexinit(&mut out, o.cookie, lists[..].try_into().unwrap(), o.follows, o.reserved).map_err(|r| r.to_string())?;
+    let (cookie, lists) = (o.cookie.try_into().unwrap(), lists[..].try_into().unwrap());
+    let n = write_kexinit(&mut out, cookie, lists, o.follows, o.reserved).map_err(|r| r.to_string())?;
     held("a KEXINIT read and written again", &out[..n], payload)?;
     held("the output after it", &out[n..], &[LENT; 4096][n..])?;
     Ok(count)
 }
 
 /// The choice of the two payloads: what the exchange was made with.
-fn chosen(c: &Capture, method: u8) -> Result<bool, String> {
+fn chosen(c: &Capture, method: Method) -> Result<bool, String> {
     let (ic, is) = (c.bytes("I_C")?, c.bytes("I_S")?);
     let choice = choose(&ic, &is).map_err(|r| format!("choose: {}", r))?;
     if choice.method != method {
-        return Err(format!("the choice is method {}, the capture has {}", choice.method, method));
+        return Err(format!("the choice is {:?}, the capture has {:?}", choice.method, method));
     }
-    held("the method's number by its name", &[castulfrisa::method_number(c.word("name")?.as_bytes()).unwrap_or(0)], &[method])?;
+    if Method::of_name(c.word("name")?.as_bytes()) != Some(method) {
+        return Err("the method of that name is another".into());
+    }
+    held("the method's name", &method.name(), c.word("name")?.as_bytes())?;
     held("the host key name", choice.host_key, c.word("signature_algorithm")?.as_bytes())?;
     let guessed = c.word("ignored_first_packet").unwrap_or("no") == "yes";
     if (choice.ignore_client, choice.ignore_server) != (guessed, false) {
@@ -79,11 +85,11 @@ fn chosen(c: &Capture, method: u8) -> Result<bool, String> {
 
 /// The fields of one capture in hash order, and what stands of them in the room at a stage.
 struct Steps {
-    role: u8,
-    method: u8,
+    role: Role,
+    method: Method,
     fields: [Vec<u8>; 7],
     room: Vec<u8>,
-    record: Record,
+    exchange: [u8; EXCHANGE],
 }
 
 const V_AND_I: [bool; 7] = [true, true, true, true, false, false, false];
@@ -91,47 +97,44 @@ const AND_C: [bool; 7] = [true, true, true, true, false, true, false];
 const ALL: [bool; 7] = [true; 7];
 
 impl Steps {
-    /// A step's answer: accepted with these counts; the record and every byte of the room as they must be.
-    fn after(&mut self, step: &str, a: raw::Answer, counts: (usize, usize), stage: u8, stand: [bool; 7], k: &[u8]) -> Result<(), String> {
-        if (a.number, (a.count, a.second)) != (0, counts) {
-            return Err(format!("{}: number {}, counts {} and {}", step, a.number, a.count, a.second));
+    /// A step that was answered: accepted; every byte of the exchange and of the room as they must be.
+    fn after(&self, step: &str, number: u64, stage: Stage, stand: [bool; 7], k: &[u8]) -> Result<(), String> {
+        if number != 0 {
+            return Err(format!("{}: {}", step, Refusal::of(number)));
         }
         let mut room = Vec::new();
-        let mut lens = [0; 7];
+        let mut e = plain::Exchange { role: self.role as u8, method: self.method as u8, stage, ..plain::Exchange::default() };
         for (i, field) in self.fields.iter().enumerate().filter(|(i, _)| stand[*i]) {
             room.extend((field.len() as u32).to_be_bytes());
             room.extend(field);
-            lens[i] = field.len();
+            e.lens[i] = field.len();
         }
         room.extend(k);
         room.resize(self.room.len(), LENT);
+        e.k[..k.len()].copy_from_slice(k);
         held(&format!("{}: the room", step), &self.room, &room)?;
-        let [vc, vs, ic, is, ks, c, s] = lens;
-        let mut record = Record { stage, fail: 0, role: self.role, method: self.method, lens: Lengths { vc, vs, ic, is, ks, c, s }, k: [0; K] };
-        record.k[..k.len()].copy_from_slice(k);
-        if a.record != record {
-            return Err(format!("{}: the record is {:?} and not {:?}", step, a.record, record));
-        }
-        self.record = a.record;
-        Ok(())
+        held(&format!("{}: the exchange", step), &self.exchange, &bytes_of(&e))
     }
+}
 
-    /// Parts of a payload: these fields, or none where the step is not due.
-    fn parts(&self, what: &str, payload: &[u8], parts: &[raw::Part], fields: Option<&[&[u8]]>) -> Result<(), String> {
-        for (i, p) in parts.iter().enumerate() {
-            match fields {
-                Some(fields) => held(what, &payload[p.start..p.start + p.len], fields[i])?,
-                None if *p == raw::Part::default() => {}
-                None => return Err(format!("{}: a part where the step is not due", what)),
-            }
-        }
-        Ok(())
+fn counted(what: &str, have: u64, want: usize) -> Result<(), String> {
+    if have == want as u64 {
+        return Ok(());
     }
+    Err(format!("{}: counted as {} and not {}", what, have, want))
+}
 
-    fn reply_parts(&self, payload: &[u8]) -> [raw::Part; 3] {
-        let (r, room) = (self.record, &self.room[..]);
-        [raw::reply_host_key(r, room, payload), raw::reply_s(r, room, payload), raw::reply_signature(r, room, payload)]
+/// A part of a payload: this field.
+fn is_field(what: &str, payload: &[u8], part: raw::Part, field: &[u8]) -> Result<(), String> {
+    held(what, &payload[part.start as usize..(part.start + part.len) as usize], field)
+}
+
+/// A call of its own for a part: accepted with this part, or, where the step is not due, 1 and none.
+fn asked(what: &str, number: u64, part: raw::Part, want: Option<raw::Part>) -> Result<(), String> {
+    if (number, part) == want.map_or((1, raw::Part::default()), |part| (0, part)) {
+        return Ok(());
     }
+    Err(format!("{}: asked for by itself it is {:?}, number {}", what, part, number))
 }
 
 /// An output: what was captured, zeros to a place, and behind it what was lent.
@@ -142,8 +145,8 @@ fn output(what: &str, out: &[u8], want: &[u8], zeros: usize) -> Result<(), Strin
     held(what, out, &all)
 }
 
-/// The steps one by one in a role, its own or its peer's: after each, record, room, parts and outputs.
-fn stepped(c: &Capture, role: u8, method: u8, room: usize) -> Result<(), String> {
+/// The steps one by one in a role, its own or its peer's: after each, exchange, room, parts and outputs.
+fn stepped(c: &Capture, role: Role, method: Method, room: usize) -> Result<(), String> {
     let field = |name| c.bytes(name);
     let fields = [field("V_C")?, field("V_S")?, field("I_C")?, field("I_S")?, field("K_S")?, field("C")?, field("S")?];
     let [vc, vs, ic, is, ks, value_c, value_s] = fields.clone();
@@ -151,105 +154,147 @@ fn stepped(c: &Capture, role: u8, method: u8, room: usize) -> Result<(), String>
     let (init, reply, signature) = (field("INIT")?, field("REPLY")?, field("signature")?);
     let kem = if digest.is_empty() { 0 } else { 2 };
     let hashed = c.word("hash_input_length")?.parse().map_err(|_| "hash_input_length")?;
-    let mut s = Steps { role, method, fields, room: vec![LENT; room], record: differ::lists::BLANK };
-    let (mut out, mut k_out) = (vec![LENT; 6000], [LENT; K + 4]);
+    let mut s = Steps { role, method, fields, room: vec![LENT; room], exchange: [LENT; EXCHANGE] };
+    let (mut out, mut k_out, mut count) = (vec![LENT; 6000], [LENT; K::SIZE + 4], 0);
 
-    let a = raw::start(role, method, &vc, &vs, &ic, &is, &mut s.room);
-    s.after("start", a, (0, 0), 0, V_AND_I, b"")?;
-    if role == 1 {
-        let a = raw::own_c(s.record, &mut s.room, &value_c, &mut out);
-        s.after("own C", a, (init.len(), 0), 1, AND_C, b"")?;
+    let n = raw::start(&mut s.exchange, role as u64, method.number(), &vc, &vs, &ic, &is, &mut s.room);
+    s.after("start", n, Stage::Started, V_AND_I, b"")?;
+    let x_count = x.len() as u64;
+    if role == Role::Client {
+        let n = raw::own_c(&mut s.exchange, &mut s.room, &value_c, &mut out, &mut count);
+        s.after("own C", n, Stage::OwnC, AND_C, b"")?;
+        counted("INIT", count, init.len())?;
         output("INIT", &out, &init, 0)?;
-        s.parts("a part of REPLY", &reply, &s.reply_parts(&reply), Some(&[&ks, &value_s, &signature]))?;
-        let a = raw::read_reply(s.record, &mut s.room, &reply);
-        s.after("REPLY", a, (0, 0), 3, ALL, b"")?;
-        s.parts("a part of REPLY", &reply, &s.reply_parts(&reply), None)?;
-        let a = raw::take_secret(s.record, &mut s.room, true, x.len(), &x, kem, &digest, b"", b"");
-        s.after("secret", a, (hashed, 0), 4, ALL, &k)?;
-        let a = raw::verdict(s.record, &mut s.room, true, true, &mut k_out);
-        s.after("verdict", a, (k.len(), 0), 5, ALL, &k)?;
+
+        let (before, mut parts) = (s.exchange, raw::Reply::default());
+        let n = raw::read_reply(&mut s.exchange, &mut s.room, &reply, &mut parts);
+        s.after("REPLY", n, Stage::Reply, ALL, b"")?;
+        let asks: [(&str, PartEntry, raw::Part, &[u8]); 3] = [
+            ("K_S of REPLY", raw::reply_host_key, parts.host_key, &ks),
+            ("S of REPLY", raw::reply_s, parts.s, &value_s),
+            ("the signature of REPLY", raw::reply_signature, parts.signature, &signature),
+        ];
+        for (what, ask, told, field) in asks {
+            is_field(what, &reply, told, field)?;
+            // ahead of the step, and after it
+            for (exchange, want) in [(&before, Some(told)), (&s.exchange, None)] {
+                let mut part = raw::Part::default();
+                let n = ask(exchange, &s.room, &reply, &mut part);
+                asked(what, n, part, want)?;
+            }
+        }
+
+        let n = raw::take_secret(&mut s.exchange, &mut s.room, 1, x_count, &x, kem, &digest, b"", b"", &mut count);
+        s.after("secret", n, Stage::Secret, ALL, &k)?;
+        counted("the hash input", count, hashed)?;
+        let n = raw::verdict(&mut s.exchange, &mut s.room, 1, 1, &mut k_out, &mut count);
+        s.after("verdict", n, Stage::Complete, ALL, &k)?;
+        counted("K", count, k.len())?;
     } else {
-        s.parts("C of INIT", &init, &[raw::init_c(s.record, &s.room, &init)], Some(&[&value_c]))?;
-        let a = raw::read_init(s.record, &mut s.room, &init);
-        s.after("INIT", a, (0, 0), 2, AND_C, b"")?;
-        s.parts("C of INIT", &init, &[raw::init_c(s.record, &s.room, &init)], None)?;
-        let a = raw::take_secret(s.record, &mut s.room, true, x.len(), &x, kem, &digest, &ks, &value_s);
-        s.after("secret", a, (hashed, 0), 4, ALL, &k)?;
-        let a = raw::sign(s.record, &s.room, &signature, &mut out, &mut k_out);
-        s.after("signature", a, (reply.len(), k.len()), 5, ALL, &k)?;
+        let (before, mut told) = (s.exchange, raw::Part::default());
+        let n = raw::read_init(&mut s.exchange, &mut s.room, &init, &mut told);
+        s.after("INIT", n, Stage::Init, AND_C, b"")?;
+        is_field("C of INIT", &init, told, &value_c)?;
+        for (exchange, want) in [(&before, Some(told)), (&s.exchange, None)] {
+            let mut part = raw::Part::default();
+            let n = raw::init_c(exchange, &s.room, &init, &mut part);
+            asked("C of INIT", n, part, want)?;
+        }
+
+        let n = raw::take_secret(&mut s.exchange, &mut s.room, 1, x_count, &x, kem, &digest, &ks, &value_s, &mut count);
+        s.after("secret", n, Stage::Secret, ALL, &k)?;
+        counted("the hash input", count, hashed)?;
+        let mut counts = raw::Signed::default();
+        let n = raw::sign(&mut s.exchange, &s.room, &signature, &mut out, &mut k_out, &mut counts);
+        s.after("signature", n, Stage::Complete, ALL, &k)?;
+        counted("REPLY", counts.reply, reply.len())?;
+        counted("K", counts.k, k.len())?;
         output("REPLY", &out, &reply, 0)?;
     }
-    output("K", &k_out, &k, K)
+    output("K", &k_out, &k, K::SIZE)
+}
+
+fn told<E>(step: &'static str) -> impl Fn(Stopped<E>) -> String {
+    move |stopped| format!("{}: {}", step, stopped)
 }
 
 /// The exchange in its own role through the wrapper.
-fn wrapped(c: &Capture, method: u8) -> Result<(Role, usize), String> {
-    let told = |step: &'static str| move |r: Refusal| format!("{}: {}", step, r);
+fn wrapped(c: &Capture, method: Method) -> Result<(Role, usize), String> {
     let (ic, is) = (c.bytes("I_C")?, c.bytes("I_S")?);
     let (vc, vs) = (c.bytes("V_C")?, c.bytes("V_S")?);
     let (ks, value_c, value_s) = (c.bytes("K_S")?, c.bytes("C")?, c.bytes("S")?);
     let (x, hybrid_digest) = (c.bytes("X")?, c.bytes("digest")?);
-    let (init, reply) = (c.bytes("INIT")?, c.bytes("REPLY")?);
-    let sizes = method_sizes(method).ok_or("no sizes")?;
-    let kem = if sizes.hybrid { Kem::Done } else { Kem::Absent };
+    let (init, reply, signature) = (c.bytes("INIT")?, c.bytes("REPLY")?, c.bytes("signature")?);
+    let sizes = method.sizes();
+    let (x, kem) = (Classical::Given(&x), if sizes.hybrid { Kem::Done } else { Kem::Absent });
+    let greeting = Greeting { vc: &vc, vs: &vs, ic: &ic, is: &is };
 
-    let mut room = vec![LENT; ROOM];
-    let mut k = [LENT; K];
-    let role = if c.word("our_role")? == "client" { Role::Client } else { Role::Server };
-    let mut e = Exchange::start(role, method, (&vc, &vs), (&ic, &is), &mut room).map_err(told("start"))?;
-    let k_len = match role {
-        Role::Client => {
-            let mut out = [0; INIT];
-            let n = e.own_c(&value_c, &mut out).map_err(told("own C"))?;
-            held("INIT", &out[..n], &init)?;
-            let r = e.read_reply(&reply).map_err(told("REPLY"))?;
-            held("K_S", r.host_key, &ks)?;
-            held("S", r.s, &value_s)?;
-            held("the signature", r.signature, &c.bytes("signature")?)?;
-            e.take_secret(Classical::Given(&x), kem, &hybrid_digest, Own::default()).map_err(told("secret"))?;
-            e.verdict(true, true, &mut k).map_err(told("verdict"))?
-        }
-        Role::Server => {
-            held("C", e.read_init(&init).map_err(told("INIT"))?, &value_c)?;
-            e.take_secret(Classical::Given(&x), kem, &hybrid_digest, Own { host_key: &ks, s: &value_s }).map_err(told("secret"))?;
-            let mut out = [0; REPLY];
-            let (n, k_len) = e.sign(&c.bytes("signature")?, &mut out, &mut k).map_err(told("signature"))?;
-            held("REPLY", &out[..n], &reply)?;
-            k_len
-        }
-    };
-    if !e.is_complete() {
-        return Err("not complete".into());
-    }
-    held("K", &k[..k_len], &c.bytes("K")?)?;
-    held("K's record after K", &k[k_len..], &[0; K][k_len..])?;
     let mut want = Vec::new();
     for field in [&vc, &vs, &ic, &is, &ks, &value_c, &value_s] {
         want.extend_from_slice(&(field.len() as u32).to_be_bytes());
         want.extend_from_slice(field);
     }
     want.extend(c.bytes("K")?);
-    held("the hash input", e.hash_input(), &want)?;
     held("its length", want.len().to_string().as_bytes(), c.word("hash_input_length")?.as_bytes())?;
-    held("H", &digest(sizes.digest_len, e.hash_input()), &c.bytes("H")?)?;
-    drop(e);
-    held("the rest of the room", &room[want.len()..], &vec![LENT; ROOM - want.len()])?;
+    let h = c.bytes("H")?;
+    let hashed = |input: &[u8]| held("the hash input", input, &want).and_then(|()| held("H", &digest(sizes.digest_len, input), &h));
+
+    let (mut exchange, mut room) = ([LENT; EXCHANGE], vec![LENT; ROOM]);
+    let mut k = K::new();
+    let role = if c.word("our_role")? == "client" { Role::Client } else { Role::Server };
+    match role {
+        Role::Client => {
+            let e = Client::start(method, greeting, &mut exchange, &mut room).map_err(|r| format!("start: {}", r))?;
+            let mut out = [0; INIT];
+            let (e, sent) = e.own_c(&value_c, &mut out).map_err(told("own C"))?;
+            held("INIT", sent, &init)?;
+            let (e, read) = e.read_reply(&reply).map_err(told("REPLY"))?;
+            held("K_S", read.host_key, &ks)?;
+            held("S", read.s, &value_s)?;
+            held("the signature", read.signature, &signature)?;
+            let e = e.take_secret(x, kem, &hybrid_digest).map_err(told("secret"))?;
+            hashed(e.hash_input())?;
+            let e = e.verdict(true, true, &mut k).map_err(told("verdict"))?;
+            hashed(e.hash_input())?;
+        }
+        Role::Server => {
+            let e = Server::start(method, greeting, &mut exchange, &mut room).map_err(|r| format!("start: {}", r))?;
+            let (e, read) = e.read_init(&init).map_err(told("INIT"))?;
+            held("C", read, &value_c)?;
+            let own = Own { host_key: &ks, s: &value_s };
+            let e = e.take_secret(x, kem, &hybrid_digest, own).map_err(told("secret"))?;
+            hashed(e.hash_input())?;
+            let mut out = [0; REPLY];
+            let (e, sent) = e.sign(&signature, &mut out, &mut k).map_err(told("signature"))?;
+            held("REPLY", sent, &reply)?;
+            hashed(e.hash_input())?;
+        }
+    }
+    held("K", k.as_bytes(), &c.bytes("K")?)?;
+    held("the exchange after it", &exchange, &[0; EXCHANGE])?;
+    held("the room after it", &room, &[0; ROOM])?;
     Ok((role, want.len()))
 }
 
 fn run(c: &Capture) -> Result<String, String> {
-    let method: u8 = c.word("method")?.parse().map_err(|_| "method")?;
+    let method = c.word("method")?.parse().ok().and_then(Method::of).ok_or("method")?;
     let names = rewritten(&c.bytes("I_C")?)? + rewritten(&c.bytes("I_S")?)?;
     let guess = if chosen(c, method)? { ", the client's guess ignored" } else { "" };
     let (role, hashed) = wrapped(c, method)?;
-    for (role, room) in [(1, ROOM), (2, ROOM + 44)] {
-        stepped(c, role, method, room).map_err(|e| format!("in role {}: {}", role, e))?;
+    for (role, room) in [(Role::Client, ROOM), (Role::Server, ROOM + 44)] {
+        stepped(c, role, method, room).map_err(|e| format!("as {:?}: {}", role, e))?;
     }
-    Ok(format!("{:?}, method {}: {} names written again, messages, K, {} bytes of hash input and H, the steps in both roles{}", role, method, names, hashed, guess))
+    Ok(format!(
+        "{:?}, method {}: {} names written again, messages, K, {} bytes of hash input and H, the steps in both roles{}",
+        role, method.number(), names, hashed, guess
+    ))
 }
 
-
 fn main() -> ExitCode {
+    if !same_version() {
+        eprintln!("captures: the library is of another version");
+        return ExitCode::FAILURE;
+    }
     let folder = env::args().nth(1).unwrap_or("tests/captures".into());
     let mut paths: Vec<_> = match fs::read_dir(&folder) {
         Ok(entries) => entries.filter_map(|e| e.ok()).map(|e| e.path()).filter(|p| p.extension().is_some_and(|x| x == "txt")).collect(),

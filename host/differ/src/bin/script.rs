@@ -1,7 +1,7 @@
 //! script SEED LISTS ROUNDS: random calls as a bench script, for the bench and for any other program that answers one.
 use differ::calls::{self, Call, Field, Filled};
-use differ::codecs::{encoded, hex, integer, output, payload, ten};
-use differ::lists::{exchange_of, on_plain, Side};
+use differ::codecs::{encoded, hex, integer, list_number, output, payload, ten};
+use differ::model::Side;
 use differ::random::Random;
 use std::io::{self, BufWriter, Write};
 
@@ -21,8 +21,9 @@ fn o(f: &Filled) -> String {
     }
 }
 
-fn bit(b: bool) -> u8 {
-    b as u8
+/// A number that a script's line may hold where only small ones mean anything.
+fn small(n: u64, most: u64) -> Option<u64> {
+    (n <= most).then_some(n)
 }
 
 /// A call as a line; none for one that a script cannot say.
@@ -33,25 +34,27 @@ fn line(call: &Call) -> Option<String> {
         Call::Forge(field, to) => match field {
             Field::Role => format!("set role {}", to),
             Field::Method => format!("set method {}", to),
-            Field::Stage => format!("set stage {}", STAGES.get(*to)?),
+            Field::Stage => format!("set stage {}", STAGES.get(usize::from(*to))?),
             Field::Fail => format!("set fail {}", to),
             Field::Length(i) => format!("set l{} {}", i, to),
             Field::K(i) => format!("set k{} {}", i, to),
+            Field::Mark => return None,
         },
+        Call::Lend(_) | Call::Old { .. } => return None,
         Call::Start { role, method, vc, vs, ic, is } => {
-            format!("start {} {} {} {} {} {}", role, method, h(vc), h(vs), h(ic), h(is))
+            format!("start {} {} {} {} {} {}", small(*role, 255)?, small(*method, 255)?, h(vc), h(vs), h(ic), h(is))
         }
         Call::OwnC { c, out } => format!("ownc {} {}", h(c), o(out)),
         Call::Init(p) => format!("init {}", h(p)),
         Call::Reply(p) => format!("reply {}", h(p)),
-        Call::Secret { given, x, kem, digest, ks, s } => {
-            let given = given.map_or("F".into(), |n| format!("G{}", n));
-            let kem = ["a", "f", "d"].get(*kem as usize)?;
+        Call::Secret { given, x_count, x, kem, digest, ks, s } => {
+            let given = if small(*given, 1)? == 1 { format!("G{}", x_count) } else { "F".into() };
+            let kem = ["a", "f", "d"].get(usize::try_from(*kem).ok()?)?;
             format!("secret {} {} {} {} {} {}", given, h(x), kem, h(digest), h(ks), h(s))
         }
         Call::Sign { signature, out, k_out } => format!("sign {} {} {}", h(signature), o(out), o(k_out)),
         Call::Verdict { signature, host_key, k_out } => {
-            format!("verdict {} {} {}", bit(*signature), bit(*host_key), o(k_out))
+            format!("verdict {} {} {}", small(*signature, 1)?, small(*host_key, 1)?, o(k_out))
         }
     })
 }
@@ -62,14 +65,13 @@ fn list(r: &mut Random, out: &mut impl Write) -> io::Result<()> {
         writeln!(out, "blank")?;
     }
     for i in 0..r.range(2, 12) {
-        let e = exchange_of(&side.record).unwrap_or_default();
         let call = match i {
             0 => Call::Room(calls::room(r)),
             1 => calls::start(r),
-            _ => calls::next(r, &e, side.room.len()),
+            _ => calls::next(r, &side.exchange, side.room.len(), 0),
         };
         if let Some(text) = line(&call) {
-            on_plain(&mut side, &call);
+            side.call(&call);
             writeln!(out, "{}", text)?;
         }
     }
@@ -84,7 +86,7 @@ fn round(r: &mut Random, out: &mut impl Write) -> io::Result<()> {
     let number = integer(r);
     writeln!(out, "rmpint {}", h(&encoded(r, &number)))?;
     writeln!(out, "wmpint {} {}", h(&number), h(&output(r, 4 + number.len())))?;
-    let list = if r.once_in(30) { r.of(&[0, 11, usize::MAX]) } else { r.range(1, 10) };
+    let list = list_number(r);
     writeln!(out, "open {} {}", h(&payload(r)), list)?;
     for _ in 0..r.below(5) {
         writeln!(out, "next")?;
@@ -98,7 +100,7 @@ fn round(r: &mut Random, out: &mut impl Write) -> io::Result<()> {
     for l in &lists {
         write!(out, " {}", h(l))?;
     }
-    writeln!(out, " {} {} {}", bit(r.coin()), r.word() as u32, h(&output(r, total)))
+    writeln!(out, " {} {} {}", r.coin() as u8, r.word() as u32, h(&output(r, total)))
 }
 
 fn main() -> io::Result<()> {

@@ -1,6 +1,6 @@
 //! timing: from the start through the secret step as server, all fields at their largest, on the compiled core and on the plain
 //! implementation in turns. Medians of 1,001, each of so many exchanges that the clock's own step does not show; rooms cleared first.
-use castulfrisa::raw;
+use castulfrisa::{raw, EXCHANGE};
 use std::hint::black_box;
 use std::time::Instant;
 
@@ -36,10 +36,12 @@ fn fed(method: u8) -> Fed {
 }
 
 fn on_core(f: &Fed, room: &mut [u8]) -> usize {
-    let a = raw::start(2, f.method, &f.v, &f.v, &f.i, &f.i, room);
-    let a = raw::read_init(a.record, room, &f.init);
+    let (mut exchange, mut c, mut count) = ([0; EXCHANGE], raw::Part::default(), 0);
+    raw::start(&mut exchange, 2, f.method.into(), &f.v, &f.v, &f.i, &f.i, room);
+    raw::read_init(&mut exchange, room, &f.init, &mut c);
     let kem = if f.digest.is_empty() { 0 } else { 2 };
-    raw::take_secret(a.record, room, true, f.x.len(), &f.x, kem, &f.digest, &f.ks, &f.s).count
+    raw::take_secret(&mut exchange, room, 1, f.x.len() as u64, &f.x, kem, &f.digest, &f.ks, &f.s, &mut count);
+    count as usize
 }
 
 fn on_plain(f: &Fed, room: &mut [u8]) -> usize {
@@ -81,18 +83,19 @@ fn crowded(name: u8) -> Vec<u8> {
 
 fn choices() {
     let (client, server) = (crowded(b'c'), crowded(b's'));
-    let core = raw::choose(&client, &server);
+    let mut core = raw::Choice::default();
+    let number = raw::choose(&client, &server, &mut core);
     let model = plain::choose(&client, &server);
-    assert_eq!((core.number, core.method, core.host_key.start), (0, 1, model.host_key.start));
-    let time = |run: &dyn Fn() -> u8| {
+    assert_eq!((number, core.method, core.host_key.start), (0, 1, model.host_key.start as u64));
+    let time = |run: &dyn Fn() -> u64| {
         let from = Instant::now();
         black_box(run());
         from.elapsed().as_nanos() as f64 / 1e6
     };
     let (mut cores, mut models) = (Vec::new(), Vec::new());
     for _ in 0..31 {
-        cores.push(time(&|| raw::choose(black_box(&client), black_box(&server)).number));
-        models.push(time(&|| plain::choose(black_box(&client), black_box(&server)).number));
+        cores.push(time(&|| raw::choose(black_box(&client), black_box(&server), &mut raw::Choice::default())));
+        models.push(time(&|| plain::choose(black_box(&client), black_box(&server)).number.into()));
     }
     let (core, model) = (median(cores), median(models));
     println!("the choice that searches longest, {} bytes each: core {:.1} ms, plain Rust {:.1} ms, {:.2} times", client.len(), core, model, core / model);

@@ -1,0 +1,138 @@
+-- A host's numbers: a law for each `return`; a wide number is judged as it came; what a strange KEM outcome meets. Assumes nothing.
+use Prim.Native.Nat.{ℕ, _≤_, _<_}
+use mathlib.Core.Path.{_≡_, refl, sym, _∙_}
+use mathlib.Core.List.{List}
+use mathlib.Core.Bool.{Bool, true, false, cond, not, _&&_}
+use native.Mathlib.Omega.{arith}
+use lib.ListN.{length}
+use lib.Dec.{leb, eqb}
+use borrow.Author.Tests.{eq-eqb, ne-eqb, le-leb, lt-leb, leb-false}
+use Rattle.wire.specs.Causes.{causeUnless}
+use Rattle.wire.proofs.CauseLaws.{unless-fails}
+use Rattle.limits.proofs.RangeLaws.{within-high}
+use Rattle.methods.specs.Rows.{hybrid, rowOf, rows, rowIn, noRow}
+use Rattle.methods.specs.declared.KForm.{KForm}
+use Rattle.methods.specs.declared.KForm.the-variants.{Mpint, Digest}
+use Rattle.methods.specs.declared.Method.{Method}
+use Rattle.exchange.specs.Causes.{methodOk, roleOk, startCause, present, kemOk, restOk, xOk, secretCause}
+use Rattle.exchange.specs.Record.{ended}
+use Rattle.exchange.specs.Steps.{started, startedRoom}
+use Rattle.exchange.specs.declared.Classical.{Classical}
+use Rattle.exchange.specs.declared.Classical.the-variants.{Failed as NoX, Given}
+use Rattle.exchange.specs.declared.Kem.{Kem}
+use Rattle.exchange.specs.declared.Step.{Step}
+use Rattle.arguments.specs.Arguments.{isYes, byteOf, classicalOf, wrongBy, kemOf}
+
+-- ---- a byte, and the outcomes
+
+pub byte-fits : (n : ℕ) → n ≤ 255 → n ≡ byteOf n
+unfolding byteOf
+byte-fits n h = rw (le-leb n 255 h)
+
+pub byte-none : (n : ℕ) → 255 < n → 0 ≡ byteOf n
+unfolding byteOf
+byte-none n h = rw (lt-leb n 255 h)
+
+pub classical-given : (g n : ℕ) → g ≡ 1 → Given n ≡ classicalOf g n
+unfolding classicalOf isYes
+classical-given g n h = rw (eq-eqb g 1 h)
+
+pub classical-failed : (g n : ℕ) → ¬ (g ≡ 1) → NoX ≡ classicalOf g n
+unfolding classicalOf isYes
+classical-failed g n h = rw (ne-eqb g 1 h)
+
+-- a KEM outcome that is none: the presence that is wrong for the method
+pub kem-none : (m n : ℕ) (k : Kem) → ¬ (n ≡ 0) → ¬ (n ≡ 1) → ¬ (n ≡ 2) → k ≡ wrongBy (rowOf m .«k_form») → k ≡ kemOf m n
+unfolding kemOf
+kem-none m n k a b c e = rw (ne-eqb n 0 a, ne-eqb n 1 b, ne-eqb n 2 c, e)
+
+-- ---- a number that is no KEM outcome is 4, in its place
+
+form-wrong : (f : KForm) → cond (hybrid f) (present (wrongBy f)) (not (present (wrongBy f))) ≡ false
+form-wrong Mpint = refl
+form-wrong Digest = refl
+
+-- it is not the method's presence
+pub kem-wrong : (m n : ℕ) → 2 < n → kemOk (rowOf m) (kemOf m n) ≡ false
+unfolding kemOf
+kem-wrong m n h =
+    rw (ne-eqb n 0 (λ (e : n ≡ 0). omega arith), ne-eqb n 1 (λ (e : n ≡ 1). omega arith), ne-eqb n 2 (λ (e : n ≡ 2). omega arith))
+    (form-wrong (rowOf m .«k_form»))
+
+-- so that the secret's cause is 4 with it
+pub kem-four : (role m n : ℕ) (cl : Classical) (x d ks s : List ℕ) → 2 < n → secretCause role m cl x (kemOf m n) d ks s ≡ 4
+unfolding secretCause restOk
+kem-four role m n cl x d ks s h = unless-fails _ 4 _ (second (xOk (rowOf m) cl x) (kemOk (rowOf m) (kemOf m n)) _ _ (kem-wrong m n h))
+  where
+    second : (a b c d : Bool) → b ≡ false → a && (b && c && d) ≡ false
+    second true b c d e = rw e
+    second false b c d e = refl
+
+-- ---- a role or a method that is no byte is refused as the byte 0 is
+
+abbrev refusal : Step
+refusal = record { number = 2; count = 0; second = 0; exchange = ended 2 0 0 }
+
+and-false : (t : Bool) → t && false ≡ false
+and-false true = refl
+and-false false = refl
+
+module _ (vc vs ic is : List ℕ) where
+  strange : (role m : ℕ) (room : ℕ) → methodOk m && roleOk role ≡ false → started role m vc vs ic is room ≡ refusal
+  unfolding started startCause causeUnless
+  strange role m room h = rw h
+
+  strange-room : (role m : ℕ) (room : List ℕ) → methodOk m && roleOk role ≡ false → startedRoom role m vc vs ic is room ≡ room
+  unfolding startedRoom startCause causeUnless
+  strange-room role m room h = rw h
+
+  high-method : (role m : ℕ) → 255 < m → (methodOk m && roleOk role ≡ false) × (methodOk 0 && roleOk role ≡ false)
+  unfolding methodOk
+  high-method role m h = (rw (within-high 1 9 m (omega arith)), refl)
+
+  high-role : (role m : ℕ) → 255 < role → (methodOk m && roleOk role ≡ false) × (methodOk m && roleOk 0 ≡ false)
+  unfolding roleOk
+  high-role role m h = (rw (within-high 1 2 role (omega arith)) (and-false (methodOk m)), and-false (methodOk m))
+
+  -- so the start judges both as they came
+  pub start-wide : (role m : ℕ) (room : List ℕ)
+      → (started (byteOf role) (byteOf m) vc vs ic is (length room) ≡ started role m vc vs ic is (length room))
+      × (startedRoom (byteOf role) (byteOf m) vc vs ic is room ≡ startedRoom role m vc vs ic is room)
+  unfolding byteOf
+  start-wide role m room = by-tests (leb m 255) refl (leb role 255) refl
+    where
+      by-tests : (a : Bool) → leb m 255 ≡ a → (b : Bool) → leb role 255 ≡ b
+          → (started (cond b role 0) (cond a m 0) vc vs ic is (length room) ≡ started role m vc vs ic is (length room))
+          × (startedRoom (cond b role 0) (cond a m 0) vc vs ic is room ≡ startedRoom role m vc vs ic is room)
+      by-tests true e true f = (refl, refl)
+      by-tests true e false f =
+          let h = high-role role m (leb-false role 255 f) in
+          (strange 0 m (length room) (h .1) ∙ sym (strange role m (length room) (h .0)), strange-room 0 m room (h .1) ∙ sym (strange-room role m room (h .0)))
+      by-tests false e b f =
+          let h = high-method role m (leb-false m 255 e) in
+          let g = high-method (cond b role 0) m (leb-false m 255 e) in
+          (strange (cond b role 0) 0 (length room) (g .1) ∙ sym (strange role m (length room) (h .0)), strange-room (cond b role 0) 0 room (g .1) ∙ sym (strange-room role m room (h .0)))
+
+-- and a lookup finds no method in a number that is no byte
+high-row : (m : ℕ) → 255 < m → rowOf m ≡ noRow
+unfolding rowOf rows
+high-row m h =
+    rw (
+      ne-eqb m 1 (λ (e : m ≡ 1). omega arith),
+      ne-eqb m 2 (λ (e : m ≡ 2). omega arith),
+      ne-eqb m 3 (λ (e : m ≡ 3). omega arith),
+      ne-eqb m 4 (λ (e : m ≡ 4). omega arith),
+      ne-eqb m 5 (λ (e : m ≡ 5). omega arith),
+      ne-eqb m 6 (λ (e : m ≡ 6). omega arith),
+      ne-eqb m 7 (λ (e : m ≡ 7). omega arith),
+      ne-eqb m 8 (λ (e : m ≡ 8). omega arith),
+      ne-eqb m 9 (λ (e : m ≡ 9). omega arith),
+    )
+
+pub row-wide : (m : ℕ) → rowOf (byteOf m) ≡ rowOf m
+unfolding byteOf rowOf rows
+row-wide m = by-test (leb m 255) refl
+  where
+    by-test : (t : Bool) → leb m 255 ≡ t → rowOf (cond t m 0) ≡ rowOf m
+    by-test true e = refl
+    by-test false e = sym (high-row m (leb-false m 255 e))

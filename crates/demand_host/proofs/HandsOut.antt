@@ -1,0 +1,129 @@
+-- What a further call of an export hands out is the book's. Assumes nothing.
+use Prim.Native.Nat.{ℕ, _≤_}
+use mathlib.Core.Path.{_≡_, sym, ap, subst, _∙_}
+use mathlib.Core.List.{List, [], _∷_}
+use lib.ListN.{length, getD, take}
+use denote.Ref.{now}
+use Rattle.limits.specs.Limits.{roomLeast}
+use Rattle.buffers.specs.Bytes.{onto}
+use Rattle.exchange.specs.Steps.{Call, secret, sign, verdict, number, countOf, secondOf, answered, replyOf, started, startedRoom}
+use Rattle.exchange.specs.Book.{Book, lastBook}
+use Rattle.exchange.specs.Demand.{lastExchange}
+use Rattle.exchange.specs.declared.Step.{Step}
+use Rattle.exchange.specs.declared.Exchange.{Exchange}
+use Rattle.exchange.proofs.StepLaws.{step-accepted, output-accepted}
+use Rattle.exchange.proofs.Simulation.{Sim}
+use Rattle.exchange.proofs.HandedLaws.{secret-handed, sign-handed, verdict-handed}
+use Rattle.arguments.specs.Arguments.{isYes, classicalOf, kemOf}
+use Rattle.stored.specs.Stored.{encoded, decoded}
+use Rattle.lent.specs.Lent.{tells}
+use Rattle.demand.proofs.HandsOut.{followed-there}
+use Rattle.demand_host.specs.Told.{Told}
+use Rattle.demand_host.specs.HandedOut.{SecretHandsOut, SignHandsOut, VerdictHandsOut, HandedOut}
+use Rattle.demand_host.proofs.Kept.{Storable}
+use Rattle.demand_host.proofs.Links.{AsStep, as-step, found}
+use Rattle.demand_host.proofs.Holds.{runs, as-defined}
+
+-- the bytes in the host's hands are those of an exchange that, with the room, follows the book
+record Follows (b₀ : Book) (room₀ : List ℕ) (calls : List Call) (ex room : List ℕ) : Type 0 where
+  stored : ex ≡ encoded (decoded ex)
+  storable : Storable (decoded ex)
+  least : roomLeast ≤ length room₀
+  sim : Sim room₀ (lastBook (length room₀) b₀ calls) (decoded ex) room
+
+follows : {b₀ : Book} {room₀ : List ℕ} {calls : List Call} {numbers ex room : List ℕ} → Told b₀ room₀ calls numbers ex room → Follows b₀ room₀ calls ex room
+follows {b₀} {room₀} {calls} {numbers} {ex} {room} h =
+    let k = runs h in
+    let s = k .run in
+    let x = lastExchange (started (k .role) (k .method) (k .vc) (k .vs) (k .ic) (k .is) (length room₀) .exchange) (startedRoom (k .role) (k .method) (k .vc) (k .vs) (k .ic) (k .is) room₀) calls in
+    let d : decoded ex ≡ x = ap decoded (s .exchange) ∙ found x (s .storable) in
+    let f = followed-there (k .role) (k .method) (k .vc) (k .vs) (k .ic) (k .is) room₀ b₀ calls numbers (decoded ex) room (k .book) (k .cause) (as-defined s) in
+    record {
+      stored = s .exchange ∙ sym (ap encoded d);
+      storable = subst Storable (sym d) (s .storable);
+      least = f .0;
+      sim = f .1;
+    }
+
+-- an accepted call's counts
+module _ (e : Exchange) (room : List ℕ) (q : Call) (z : number e room q ≡ 0) where
+  count-none : answered e room q .count ≡ countOf e room q
+  count-none = sym (ap (λ (x : Step). x .count) (step-accepted e room q z .0))
+
+  second-none : answered e room q .second ≡ secondOf e q
+  second-none = sym (ap (λ (x : Step). x .second) (step-accepted e room q z .0))
+
+-- the first number told, and the first two outputs
+abbrev first : List ℕ → ℕ
+first l = getD l 0 0
+
+abbrev front : List (List ℕ) → List ℕ
+front [] = []
+front (x ∷ xs) = x
+
+abbrev next : List (List ℕ) → List ℕ
+next [] = []
+next (x ∷ xs) = front xs
+
+secret-hands-out : SecretHandsOut
+unfolding tells
+secret-hands-out b₀ room₀ calls numbers κs a r s d t z =
+    let f = follows d in
+    let b = lastBook (length room₀) b₀ calls in
+    let e = decoded (now (a .0)) in
+    let room = now (a .1 .0) in
+    let cl = classicalOf (a .1 .1 .0) (a .1 .1 .1 .0) in
+    let x = now (a .1 .1 .1 .1 .0) in
+    let kem = kemOf (e .method) (a .1 .1 .1 .1 .1 .0) in
+    let dg = now (a .1 .1 .1 .1 .1 .1 .0) in
+    let ks = now (a .1 .1 .1 .1 .1 .1 .1 .0) in
+    let v = now (a .1 .1 .1 .1 .1 .1 .1 .1 .0) in
+    let q = secret cl x kem dg ks v in
+    let l = as-step (now (a .0)) e room q _ r _ _ _ _ (f .stored) (f .storable) t in
+    let n = sym (l .number-is) ∙ z in
+    let c = ap first (l .told-is) ∙ count-none e room q n in
+    let h = secret-handed room₀ b e room (f .least) (f .sim) cl x kem dg ks v n in
+    (c ∙ h .0, (λ i. take (c i) (l .room-is i)) ∙ h .1)
+
+sign-hands-out : SignHandsOut
+unfolding tells countOf secondOf
+sign-hands-out b₀ room₀ calls numbers κs a r s d t z =
+    let f = follows d in
+    let b = lastBook (length room₀) b₀ calls in
+    let e = decoded (now (a .0)) in
+    let room = now (a .1 .0) in
+    let g = now (a .1 .1 .0) in
+    let o = now (a .1 .1 .1 .0) in
+    let p = now (a .1 .1 .1 .1 .0) in
+    let q = sign g (length o) (length p) in
+    let l = as-step (now (a .0)) e room q (o ∷ p ∷ []) r _ _ _ _ (f .stored) (f .storable) t in
+    let n = sym (l .number-is) ∙ z in
+    let h = sign-handed room₀ b e room (f .least) (f .sim) g (length o) (length p) n in
+    record {
+      out-is = ap front (l .outputs-are) ∙ sym (output-accepted _ o (replyOf e room g) n) ∙ ap (onto o) (h .0);
+      k-out-is = ap next (l .outputs-are) ∙ sym (output-accepted _ p (e .k) n) ∙ ap (onto p) (h .1 .0);
+      counts-are = l .told-is ∙ (λ i. (count-none e room q n ∙ ap length (h .0)) i ∷ (second-none e room q n ∙ h .1 .1) i ∷ []);
+      read-back = h .2 .0;
+      ks-back = h .2 .1;
+      s-back = h .2 .2;
+      signature-back = h .2 .3;
+    }
+
+verdict-hands-out : VerdictHandsOut
+unfolding tells countOf
+verdict-hands-out b₀ room₀ calls numbers κs a r s d t z =
+    let f = follows d in
+    let b = lastBook (length room₀) b₀ calls in
+    let e = decoded (now (a .0)) in
+    let room = now (a .1 .0) in
+    let u = isYes (a .1 .1 .0) in
+    let v = isYes (a .1 .1 .1 .0) in
+    let p = now (a .1 .1 .1 .1 .0) in
+    let q = verdict u v (length p) in
+    let l = as-step (now (a .0)) e room q (p ∷ []) r _ _ _ _ (f .stored) (f .storable) t in
+    let n = sym (l .number-is) ∙ z in
+    let h = verdict-handed room₀ b e room (f .least) (f .sim) u v (length p) n in
+    (ap front (l .outputs-are) ∙ sym (output-accepted _ p (e .k) n) ∙ ap (onto p) (h .0), ap first (l .told-is) ∙ count-none e room q n ∙ h .1)
+
+pub handed-out : HandedOut
+handed-out = record { secret-step = secret-hands-out; signature = sign-hands-out; verdict = verdict-hands-out }

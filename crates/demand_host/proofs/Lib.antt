@@ -1,0 +1,5 @@
+pub mod Kept
+pub mod Links
+pub mod Holds
+pub mod HandsOut
+pub mod Reached

@@ -1,0 +1,201 @@
+-- Demand 3 where the host stands is not about nothing: every list of calls has a history, and for each role and method one ends
+-- complete. Assumes nothing.
+use Prim.Native.Nat.{ℕ, _≤_}
+use mathlib.Core.Path.{_≡_, refl, subst, ap, _∙_}
+use mathlib.Core.List.{List, [], _∷_}
+use mathlib.Core.Bool.{Bool, true, false, cond}
+use lib.ListN.{length, length-replicate}
+use base.Fml.{Lft, GName}
+use denote.Ref.{RefT, now}
+use Rattle.limits.specs.Limits.{exchangeSize, roomLeast}
+use Rattle.buffers.specs.Bytes.{zeros}
+use Rattle.messages.specs.Messages.{initBytes}
+use Rattle.exchange.specs.Causes.{methodOk, roleOk, startCause}
+use Rattle.exchange.specs.Steps.{Call, ownC, init, reply, secret, sign, verdict, number, replyOf, answered, exchangeAfter, roomAfter, outputAfter, started, startedRoom}
+use Rattle.exchange.specs.Book.{opened, isComplete}
+use Rattle.exchange.specs.Demand.{numbersOf, lastExchange, lastRoom}
+use Rattle.exchange.specs.declared.Classical.{Classical}
+use Rattle.exchange.specs.declared.Classical.the-variants.{Failed as NoX, Given}
+use Rattle.exchange.specs.declared.Kem.{Kem}
+use Rattle.exchange.specs.declared.Kem.the-variants.{Absent, Failed as NoKem, Done}
+use Rattle.exchange.specs.declared.Exchange.{Exchange}
+use Rattle.exchange.proofs.Sample.{version, payload, sampleCalls}
+use Rattle.exchange.proofs.Simulation.{sign-room}
+use Rattle.exchange.proofs.Completes.{completes}
+use Rattle.arguments.specs.Arguments.{isYes, classicalOf, kemOf}
+use Rattle.stored.specs.Stored.{encoded, decoded}
+use Rattle.lent.specs.Lent.{left, tells, stepLeft, lentCall, startLeft}
+use Rattle.demand_host.specs.History.{History, no-call, own-c, read-init, read-reply, take-secret, give-sign, give-verdict}
+use Rattle.demand_host.specs.Told.{Told, start-then}
+use Rattle.demand_host.specs.Completed.{Completed}
+use Rattle.demand_host.proofs.Kept.{Storable, step-storable, start-storable}
+use Rattle.demand_host.proofs.Links.{as-called, start-called, found}
+use Rattle.demand_host.proofs.Holds.{host-run}
+
+-- a run of the definitions from an exchange is a history from its bytes
+abbrev pub Reaches : Exchange → List ℕ → List Call → Type 0
+Reaches x room qs = History (encoded x) room qs (numbersOf x room qs) (encoded (lastExchange x room qs)) (lastRoom x room qs)
+
+length-zeros : (n : ℕ) → length (zeros n) ≡ n
+length-zeros n = length-replicate n 0
+
+started-zero : (role m : ℕ) (vc vs ic is : List ℕ) (room : ℕ) → startCause role m vc vs ic is room ≡ 0 → started role m vc vs ic is room .number ≡ 0
+unfolding started
+started-zero role m vc vs ic is room z = rw z
+
+-- ---- the numbers that a host hands in for the outcomes and the yes/no's
+
+abbrev given : Classical → ℕ
+given NoX = 0
+given (Given n) = 1
+
+abbrev stated : Classical → ℕ
+stated NoX = 0
+stated (Given n) = n
+
+classical-back : (cl : Classical) → classicalOf (given cl) (stated cl) ≡ cl
+unfolding classicalOf isYes
+classical-back NoX = refl
+classical-back (Given n) = refl
+
+abbrev kemNumber : Kem → ℕ
+kemNumber Absent = 0
+kemNumber NoKem = 1
+kemNumber Done = 2
+
+kem-back : (m : ℕ) (k : Kem) → kemOf m (kemNumber k) ≡ k
+unfolding kemOf
+kem-back m Absent = refl
+kem-back m NoKem = refl
+kem-back m Done = refl
+
+abbrev yesNo : Bool → ℕ
+yesNo b = cond b 1 0
+
+yes-back : (b : Bool) → isYes (yesNo b) ≡ b
+unfolding isYes
+yes-back true = refl
+yes-back false = refl
+
+-- ---- at any lifetime and any ghost name
+module _ (l : Lft) (g : GName) where
+  -- a slice or an array that holds these, and a lent number
+  lent : List ℕ → RefT (List ℕ)
+  lent x = record { ptr = (0, 0); name = g; now = x }
+
+  one : ℕ → RefT ℕ
+  one n = record { ptr = (0, 0); name = g; now = n }
+
+  -- one call with what it is lent in hand, and then the rest of the run
+  module _ (x : Exchange) (h : Storable x) (room : List ℕ) (qs : List Call) where
+    own-c-then : (c out : List ℕ) → let q = ownC c (length out) in Reaches (exchangeAfter x room q) (roomAfter x room q) qs → Reaches x room (q ∷ qs)
+    unfolding lent one tells stepLeft
+    own-c-then c out k =
+        let q : Call = ownC c (length out) in
+        own-c (l, (l, (l, (l, (l, tt))))) (lent (encoded x), (lent room, (lent c, (lent out, (one 0, tt))))) (number x room q)
+        (lent (encoded (exchangeAfter x room q)), (lent (roomAfter x room q), (lent c, (lent (outputAfter (number x room q) out (initBytes c)), (one (answered x room q .count), tt)))))
+        (as-called x room q (out ∷ []) h) k
+
+    init-then : (p : List ℕ) → Reaches (exchangeAfter x room (init p)) (roomAfter x room (init p)) qs → Reaches x room (init p ∷ qs)
+    unfolding lent stepLeft
+    init-then p k =
+        let q : Call = init p in
+        read-init (l, (l, (l, (l, tt)))) (lent (encoded x), (lent room, (lent p, (lent (zeros 2), tt)))) (number x room q)
+        (lent (encoded (exchangeAfter x room q)), (lent (roomAfter x room q), (lent p, (lent (tells x room q), tt))))
+        (as-called x room q [] h) k
+
+    reply-then : (p : List ℕ) → Reaches (exchangeAfter x room (reply p)) (roomAfter x room (reply p)) qs → Reaches x room (reply p ∷ qs)
+    unfolding lent stepLeft
+    reply-then p k =
+        let q : Call = reply p in
+        read-reply (l, (l, (l, (l, tt)))) (lent (encoded x), (lent room, (lent p, (lent (zeros 6), tt)))) (number x room q)
+        (lent (encoded (exchangeAfter x room q)), (lent (roomAfter x room q), (lent p, (lent (tells x room q), tt))))
+        (as-called x room q [] h) k
+
+    secret-then : (gv n : ℕ) (v : List ℕ) (km : ℕ) (d ks s : List ℕ) → let q = secret (classicalOf gv n) v (kemOf (decoded (encoded x) .method) km) d ks s in
+        Reaches (exchangeAfter x room q) (roomAfter x room q) qs → Reaches x room (q ∷ qs)
+    unfolding lent one tells stepLeft
+    secret-then gv n v km d ks s k =
+        let q : Call = secret (classicalOf gv n) v (kemOf (decoded (encoded x) .method) km) d ks s in
+        take-secret (l, (l, (l, (l, (l, (l, (l, tt)))))))
+        (lent (encoded x), (lent room, (gv, (n, (lent v, (km, (lent d, (lent ks, (lent s, (one 0, tt)))))))))) (number x room q)
+        (lent (encoded (exchangeAfter x room q)), (lent (roomAfter x room q), (gv, (n, (lent v, (km, (lent d, (lent ks, (lent s, (one (answered x room q .count), tt))))))))))
+        (as-called x room q [] h) k
+
+    sign-then : (sg out kOut : List ℕ) → let q = sign sg (length out) (length kOut) in Reaches (exchangeAfter x room q) (roomAfter x room q) qs → Reaches x room (q ∷ qs)
+    unfolding lent tells stepLeft
+    sign-then sg out kOut k =
+        let q : Call = sign sg (length out) (length kOut) in
+        let r = sign-room x room sg (length out) (length kOut) in
+        give-sign (l, (l, (l, (l, (l, (l, tt)))))) (lent (encoded x), (lent room, (lent sg, (lent out, (lent kOut, (lent (zeros 2), tt)))))) (number x room q)
+        (lent (encoded (exchangeAfter x room q)), (lent room, (lent sg, (lent (outputAfter (number x room q) out (replyOf x room sg)), (lent (outputAfter (number x room q) kOut (x .k)), (lent (tells x room q), tt))))))
+        (subst (λ (room₁ : List ℕ). left (number x room q) (tells x room q) (encoded (exchangeAfter x room q)) room₁ (outputAfter (number x room q) out (replyOf x room sg) ∷ outputAfter (number x room q) kOut (x .k) ∷ []) ≡ lentCall (encoded x) room q (out ∷ kOut ∷ [])) r (as-called x room q (out ∷ kOut ∷ []) h))
+        (subst
+        (λ (room₁ : List ℕ). History (encoded (exchangeAfter x room q)) room₁ qs (numbersOf (exchangeAfter x room q) (roomAfter x room q) qs)
+        (encoded (lastExchange (exchangeAfter x room q) (roomAfter x room q) qs)) (lastRoom (exchangeAfter x room q) (roomAfter x room q) qs))
+        r k)
+
+    verdict-then : (u v : ℕ) (kOut : List ℕ) → let q = verdict (isYes u) (isYes v) (length kOut) in Reaches (exchangeAfter x room q) (roomAfter x room q) qs → Reaches x room (q ∷ qs)
+    unfolding lent one tells stepLeft
+    verdict-then u v kOut k =
+        let q : Call = verdict (isYes u) (isYes v) (length kOut) in
+        give-verdict (l, (l, (l, (l, tt)))) (lent (encoded x), (lent room, (u, (v, (lent kOut, (one 0, tt)))))) (number x room q)
+        (lent (encoded (exchangeAfter x room q)), (lent (roomAfter x room q), (u, (v, (lent (outputAfter (number x room q) kOut (x .k)), (one (answered x room q .count), tt))))))
+        (as-called x room q (kOut ∷ []) h) k
+
+  -- outputs of zeros have every length
+  pub reached : (x : Exchange) → Storable x → (room : List ℕ) (qs : List Call) → Reaches x room qs
+  reached x h room [] = no-call
+  reached x h room (ownC c out ∷ qs) =
+      subst (λ (n : ℕ). Reaches x room (ownC c n ∷ qs)) (length-zeros out) (own-c-then x h room qs c (zeros out) (reached _ (step-storable x room _ h) _ qs))
+  reached x h room (init p ∷ qs) = init-then x h room qs p (reached _ (step-storable x room _ h) _ qs)
+  reached x h room (reply p ∷ qs) = reply-then x h room qs p (reached _ (step-storable x room _ h) _ qs)
+  reached x h room (secret cl v kem d ks s ∷ qs) =
+      let m = decoded (encoded x) .method in
+      subst (λ (c : Classical). Reaches x room (secret c v kem d ks s ∷ qs)) (classical-back cl)
+      (subst (λ (k : Kem). Reaches x room (secret (classicalOf (given cl) (stated cl)) v k d ks s ∷ qs)) (kem-back m kem)
+      (secret-then x h room qs (given cl) (stated cl) v (kemNumber kem) d ks s (reached _ (step-storable x room _ h) _ qs)))
+  reached x h room (sign sg out kOut ∷ qs) =
+      subst (λ (n : ℕ). Reaches x room (sign sg n kOut ∷ qs)) (length-zeros out)
+      (subst (λ (n : ℕ). Reaches x room (sign sg (length (zeros out)) n ∷ qs)) (length-zeros kOut)
+      (sign-then x h room qs sg (zeros out) (zeros kOut) (reached _ (step-storable x room _ h) _ qs)))
+  reached x h room (verdict a b kOut ∷ qs) =
+      subst (λ (t : Bool). Reaches x room (verdict t b kOut ∷ qs)) (yes-back a)
+      (subst (λ (t : Bool). Reaches x room (verdict (isYes (yesNo a)) t kOut ∷ qs)) (yes-back b)
+      (subst (λ (n : ℕ). Reaches x room (verdict (isYes (yesNo a)) (isYes (yesNo b)) n ∷ qs)) (length-zeros kOut)
+      (verdict-then x h room qs (yesNo a) (yesNo b) (zeros kOut) (reached _ (step-storable x room _ h) _ qs))))
+
+  -- a start with no cause against it, in bytes that held nothing, and any list of calls after it
+  told-of : (role m : ℕ) (vc vs ic is room : List ℕ) (qs : List Call) → startCause role m vc vs ic is (length room) ≡ 0
+      → let e = started role m vc vs ic is (length room) .exchange in
+      let o = startedRoom role m vc vs ic is room in
+      Told (opened role m vc vs ic is) room qs (numbersOf e o qs) (encoded (lastExchange e o qs)) (lastRoom e o qs)
+  unfolding lent startLeft
+  told-of role m vc vs ic is room qs z =
+      let t = started role m vc vs ic is (length room) in
+      start-then (l, (l, (l, (l, (l, (l, tt)))))) (lent (zeros exchangeSize), (role, (m, (lent vc, (lent vs, (lent ic, (lent is, (lent room, tt))))))))
+      (t .number)
+      (lent (encoded (t .exchange)), (role, (m, (lent vc, (lent vs, (lent ic, (lent is, (lent (startedRoom role m vc vs ic is room), tt))))))))
+      (start-called (zeros exchangeSize) role m vc vs ic is room (length-zeros exchangeSize)) (started-zero role m vc vs ic is (length room) z)
+      (reached (t .exchange) (start-storable role m vc vs ic is (length room)) (startedRoom role m vc vs ic is room) qs)
+
+  -- for each role and method one ends complete
+  pub completed : (role m : ℕ) (room : List ℕ) → roleOk role ≡ true → methodOk m ≡ true → roomLeast ≤ length room → Completed role m room
+  unfolding opened
+  completed role m room r k h =
+      let c = completes role m room r k h in
+      let e : Exchange = started role m version version payload payload (length room) .exchange in
+      let o : List ℕ = startedRoom role m version version payload payload room in
+      let t = told-of role m version version payload payload room (sampleCalls role m) (c .0) in
+      let s = host-run (reached e (start-storable role m version version payload payload (length room)) o (sampleCalls role m)) e refl (start-storable role m version version payload payload (length room)) .storable in
+      record {
+        book = opened role m version version payload payload;
+        role-is = refl;
+        method-is = refl;
+        calls = sampleCalls role m;
+        numbers = numbersOf e o (sampleCalls role m);
+        exchange = encoded (lastExchange e o (sampleCalls role m));
+        room-left = lastRoom e o (sampleCalls role m);
+        told = t;
+        complete = ap (λ (y : Exchange). isComplete (y .stage)) (found (lastExchange e o (sampleCalls role m)) s) ∙ c .1;
+      }

@@ -1,0 +1,21 @@
+-- An exchange that an accepted start and a list of calls of the exports leave complete: what demand 3 speaks of is not nothing. Assumes nothing.
+use Prim.Native.Nat.{ℕ}
+use mathlib.Core.Path.{_≡_}
+use mathlib.Core.List.{List}
+use mathlib.Core.Bool.{true}
+use Rattle.exchange.specs.Steps.{Call}
+use Rattle.exchange.specs.Book.{Book, isComplete}
+use Rattle.stored.specs.Stored.{decoded}
+use Rattle.demand_host.specs.Told.{Told}
+
+-- with this role and method, from this room
+pub record Completed (role m : ℕ) (room : List ℕ) : Type 0 where
+  pub book : Book
+  pub role-is : book .role ≡ role
+  pub method-is : book .method ≡ m
+  pub calls : List Call
+  pub numbers : List ℕ
+  pub exchange : List ℕ
+  pub room-left : List ℕ
+  pub told : Told book room calls numbers exchange room-left
+  pub complete : isComplete (decoded exchange .stage) ≡ true

@@ -1,0 +1,5 @@
+pub mod History
+pub mod Told
+pub mod Demand3
+pub mod HandedOut
+pub mod Completed

@@ -1,0 +1,93 @@
+-- What a call on an exchange in lent bytes answers and leaves, by the definitions of the step by value. Assumes nothing.
+use Prim.Native.Nat.{ℕ}
+use mathlib.Core.List.{List, [], _∷_, _++_}
+use lib.ListN.{length}
+use Rattle.buffers.specs.Bytes.{zeros}
+use Rattle.wire.specs.declared.Part.{Part}
+use Rattle.messages.specs.Messages.{initBytes}
+use Rattle.exchange.specs.Steps.{Call, ownC, init, reply, secret, sign, verdict, number, exchangeAfter, roomAfter, replyOf, answered, outputAfter, stepPart, started, startedRoom}
+use Rattle.exchange.specs.declared.Exchange.{Exchange}
+use Rattle.exchange.specs.declared.Step.{Step}
+use Rattle.stored.specs.Stored.{encoded, decoded, byFit, bySize}
+
+-- the number; what goes through lent numbers; and the lent bytes as they are left: the exchange's, the room, the outputs
+pub record Left : Type 0 where
+  pub number : ℕ
+  pub told : List ℕ
+  pub exchange : List ℕ
+  pub room : List ℕ
+  pub outputs : List (List ℕ)
+
+abbrev pub left : ℕ → List ℕ → List ℕ → List ℕ → List (List ℕ) → Left
+left n told ex room outs = record { number = n; told = told; exchange = ex; room = room; outputs = outs }
+
+-- ---- what a call tells: counts, or start and length of each part
+
+abbrev pub placeOf : Part → List ℕ
+placeOf p = p .start ∷ p .len ∷ []
+
+abbrev pub counts : Step → List ℕ
+counts s = s .count ∷ []
+
+abbrev pub bothCounts : Step → List ℕ
+bothCounts s = s .count ∷ s .second ∷ []
+
+unfoldable pub tells : Exchange → List ℕ → Call → List ℕ
+tells e room (ownC c out) = counts (answered e room (ownC c out))
+tells e room (init p) = placeOf (stepPart e room (init p) p 0)
+tells e room (reply p) = placeOf (stepPart e room (reply p) p 0) ++ placeOf (stepPart e room (reply p) p 1) ++ placeOf (stepPart e room (reply p) p 2)
+tells e room (secret cl x kem d ks s) = counts (answered e room (secret cl x kem d ks s))
+tells e room (sign g out kOut) = bothCounts (answered e room (sign g out kOut))
+tells e room (verdict a b kOut) = counts (answered e room (verdict a b kOut))
+
+-- so many numbers
+abbrev pub toldSize : Call → ℕ
+toldSize (ownC c out) = 1
+toldSize (init p) = 2
+toldSize (reply p) = 6
+toldSize (secret cl x kem d ks s) = 1
+toldSize (sign g out kOut) = 2
+toldSize (verdict a b kOut) = 1
+
+-- ---- what an accepted call writes to its outputs: INIT; REPLY and K; K
+
+abbrev pub writes : Exchange → List ℕ → Call → List (List ℕ)
+writes e room (ownC c out) = initBytes c ∷ []
+writes e room (init p) = []
+writes e room (reply p) = []
+writes e room (secret cl x kem d ks s) = []
+writes e room (sign g out kOut) = replyOf e room g ∷ e .k ∷ []
+writes e room (verdict a b kOut) = e .k ∷ []
+
+abbrev pub outputsAfter : ℕ → List (List ℕ) → List (List ℕ) → List (List ℕ)
+outputsAfter n [] bs = []
+outputsAfter n (out ∷ outs) [] = out ∷ outs
+outputsAfter n (out ∷ outs) (b ∷ bs) = outputAfter n out b ∷ outputsAfter n outs bs
+
+-- ---- a call
+
+-- on an exchange's bytes: all as the step by value has it, the exchange after it encoded
+unfoldable pub stepLeft : Exchange → List ℕ → Call → List (List ℕ) → Left
+stepLeft e room q outs = record {
+  number = number e room q;
+  told = tells e room q;
+  exchange = encoded (exchangeAfter e room q);
+  room = roomAfter e room q;
+  outputs = outputsAfter (number e room q) outs (writes e room q);
+}
+
+-- on others: 1, and all as it was
+abbrev pub untouched : List ℕ → List ℕ → ℕ → List (List ℕ) → Left
+untouched b room told outs = left 1 (zeros told) b room outs
+
+unfoldable pub lentCall : List ℕ → List ℕ → Call → List (List ℕ) → Left
+lentCall b room q outs = byFit b (stepLeft (decoded b) room q outs) (untouched b room (toldSize q) outs)
+
+-- ---- the start: in as many bytes as an exchange has, whatever they hold
+
+unfoldable pub startLeft : Step → List ℕ → Left
+startLeft s room = left (s .number) [] (encoded (s .exchange)) room []
+
+unfoldable pub lentStart : List ℕ → ℕ → ℕ → List ℕ → List ℕ → List ℕ → List ℕ → List ℕ → Left
+lentStart b role m vc vs ic is room =
+    bySize b (startLeft (started role m vc vs ic is (length room)) (startedRoom role m vc vs ic is room)) (untouched b room 0 [])

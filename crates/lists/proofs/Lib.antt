@@ -1,0 +1,2 @@
+pub mod ListsLaws
+pub mod Joined

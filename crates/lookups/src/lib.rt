@@ -1,0 +1,69 @@
+// What a host looks up of a method: its sizes and rules, and its name.
+use wire::Part;
+ghost use mathlib.Core.Path.{_≡_};
+ghost use mathlib.Core.Bool.{cond};
+ghost use lib.ListN.{length};
+ghost use Rattle.methods.specs.Rows.{rowOf, nameOf};
+ghost use Rattle.writers.specs.Writers.{wrote, leaves};
+ghost use Rattle.lookups.specs.Lookups.{methodCause, sizesOf, nameCause};
+
+// A yes/no as it is told: 1 or 0.
+pub fn told(yes: bool) -> u64
+    ensures { λ r. ⌜ r ≡ cond yes 1 0 ⌝ }
+{
+    if yes { 1 } else { 0 }
+}
+
+// A sign as it is told.
+pub fn told_sign(sign: i8) -> i64
+    ensures { λ r. ⌜ r ≡ sign ⌝ }
+{
+    sign as i64
+}
+
+// The sizes and rules of a method: lengths of C and of S, each with the place where its classical part begins, of X and of the digest,
+// whether it is a hybrid, and whether an all-zero X is refused. 2 and all 0 for a number that is no method.
+pub fn method_sizes(method: u64, sizes: &mut [u64; 8]) -> u64
+    ensures { λ n. ⌜ (n ≡ methodCause method) × (now (sizes .exit) ≡ sizesOf method) ⌝ }
+{
+    let m = methods::method_of(arguments::byte_of(method));
+    let c = m.c;
+    let s = m.s;
+    let form = m.k_form;
+    *sizes = [
+        c.len as u64,
+        c.classical as u64,
+        s.len as u64,
+        s.classical as u64,
+        m.x_len as u64,
+        m.digest_len as u64,
+        told(methods::is_hybrid(form)),
+        told(m.zero_check),
+    ];
+    if m.number == 0 {
+        return 2;
+    }
+    0
+}
+
+// Writes the name of a method at the beginning of out: 2 for a number that is none, then 5.
+pub fn method_name(method: u64, out: &mut [u8], count: &mut u64) -> u64
+    ensures { λ n.
+        let name = nameOf (rowOf method) in
+        let cause = nameCause (length (now (out .entry))) method in
+        ⌜ (n ≡ cause) × (now (count .exit) ≡ wrote cause name .count) × (now (out .exit) ≡ leaves cause name (now (out .entry))) ⌝ }
+{
+    let m = methods::method_of(arguments::byte_of(method));
+    let bytes = m.name;
+    let len = m.name_len;
+    *count = 0;
+    if m.number == 0 {
+        return 2;
+    }
+    if out.len() < len {
+        return 5;
+    }
+    buffers::put_bytes(out, 0, wire::part_of(&bytes, Part { start: 0, len }));
+    *count = len as u64;
+    0
+}

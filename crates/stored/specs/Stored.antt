@@ -1,0 +1,115 @@
+-- The exchange as bytes, and the answers that go by them. Assumes nothing.
+use Prim.Native.Nat.{ℕ, _+_, _*_, _/_, _%_}
+use mathlib.Core.List.{List, [], _∷_, _++_}
+use mathlib.Core.Bool.{Bool, false, cond, _&&_, _||_}
+use lib.ListN.{length, getD, drop}
+use lib.Dec.{leb, eqb}
+use Rattle.limits.specs.Limits.{kSize, exchangeSize, exchangeMark}
+use Rattle.buffers.specs.Bytes.{zeros}
+use Rattle.exchange.specs.Record.{noLengths}
+use Rattle.exchange.specs.declared.Stage.{Stage}
+use Rattle.exchange.specs.declared.Stage.the-variants.{Started, CSent, InitRead, ReplyRead, SecretDone, Complete, Failed}
+use Rattle.exchange.specs.declared.Lengths.{Lengths}
+use Rattle.exchange.specs.declared.Exchange.{Exchange}
+use Rattle.stored.specs.declared.Taken.{Taken}
+
+-- ---- a stage as two numbers: which it is, and what ended a failed exchange
+
+abbrev pub stageNumber : Stage → ℕ
+stageNumber Started = 0
+stageNumber CSent = 1
+stageNumber InitRead = 2
+stageNumber ReplyRead = 3
+stageNumber SecretDone = 4
+stageNumber Complete = 5
+stageNumber (Failed n) = 6
+
+abbrev pub failNumber : Stage → ℕ
+failNumber Started = 0
+failNumber CSent = 0
+failNumber InitRead = 0
+failNumber ReplyRead = 0
+failNumber SecretDone = 0
+failNumber Complete = 0
+failNumber (Failed n) = n
+
+unfoldable pub stageOf : ℕ → ℕ → Stage
+stageOf stage fail =
+    cond (eqb stage 0) Started
+    (cond (eqb stage 1) CSent
+    (cond (eqb stage 2) InitRead
+    (cond (eqb stage 3) ReplyRead
+    (cond (eqb stage 4) SecretDone
+    (cond (eqb stage 5) Complete
+    (Failed fail))))))
+
+-- ---- the bytes of an exchange
+
+-- the two bytes of a length, the highest first, and the number in the two bytes from `at` on
+abbrev pub bytes16 : ℕ → List ℕ
+bytes16 n = n / 256 % 256 ∷ n % 256 ∷ []
+
+abbrev pub number16 : List ℕ → ℕ → ℕ
+number16 b at = getD b at 0 * 256 + getD b (at + 1) 0
+
+abbrev pub headOf : Exchange → List ℕ
+headOf x =
+    exchangeMark ∷ stageNumber (x .stage) ∷ failNumber (x .stage) ∷ x .role ∷ x .method ∷ []
+    ++ bytes16 (x .lens .vc)
+    ++ bytes16 (x .lens .vs)
+    ++ bytes16 (x .lens .ic)
+    ++ bytes16 (x .lens .is)
+    ++ bytes16 (x .lens .ks)
+    ++ bytes16 (x .lens .c)
+    ++ bytes16 (x .lens .s)
+
+unfoldable pub encoded : Exchange → List ℕ
+encoded x = headOf x ++ x .k
+
+-- ---- the exchange of bytes
+
+-- an exchange has the mark of this layout and one of the seven stages, with no fail number unless it failed
+unfoldable pub marksFit : ℕ → ℕ → ℕ → Bool
+marksFit mark stage fail = eqb mark exchangeMark && leb stage 6 && (eqb stage 6 || eqb fail 0)
+
+-- bytes that an exchange has
+unfoldable pub fits : List ℕ → Bool
+fits b = eqb (length b) exchangeSize && marksFit (getD b 0 0) (getD b 1 0) (getD b 2 0)
+
+abbrev pub lengthsIn : List ℕ → Lengths
+lengthsIn b = record {
+  vc = number16 b 5;
+  vs = number16 b 7;
+  ic = number16 b 9;
+  is = number16 b 11;
+  ks = number16 b 13;
+  c = number16 b 15;
+  s = number16 b 17;
+}
+
+unfoldable pub decoded : List ℕ → Exchange
+decoded b = record {
+  stage = stageOf (getD b 1 0) (getD b 2 0);
+  role = getD b 3 0;
+  method = getD b 4 0;
+  lens = lengthsIn b;
+  k = drop 19 b;
+}
+
+-- what the code takes bytes for: of another length, for a blank that does not fit
+abbrev pub blank : Taken
+blank = record {
+  fits = false;
+  exchange = record { stage = Started; role = 0; method = 0; lens = noLengths; k = zeros kSize };
+}
+
+unfoldable pub loaded : List ℕ → Taken
+loaded b = cond (eqb (length b) exchangeSize) (record { fits = marksFit (getD b 0 0) (getD b 1 0) (getD b 2 0); exchange = decoded b }) blank
+
+-- ---- answers that go by lent bytes: one where an exchange has them, or where they are as many as one has; else another
+
+unfoldable pub byFit : {A : Type 0} → List ℕ → A → A → A
+byFit b new old = cond (fits b) new old
+
+unfoldable pub bySize : {A : Type 0} → List ℕ → A → A → A
+bySize b new old = cond (eqb (length b) exchangeSize) new old

@@ -1,0 +1,108 @@
+//! Why a call was refused.
+use core::fmt;
+
+/// Why a call was refused; `number` is the core's.
+#[derive(Clone, Copy, Debug, PartialEq, Eq, Hash)]
+pub enum Refusal {
+    /// 1: the step is not due, also when the exchange is complete or failed; or the bytes lent for it are none.
+    NotDue,
+    /// 2: method not 1 to 9, or role neither client nor server.
+    NoMethod,
+    /// 3: the room is too short.
+    ShortRoom,
+    /// 4: what the caller handed in has a wrong length or form.
+    BadInput,
+    /// 5: an output is too short.
+    ShortOutput,
+    /// 10: a payload is empty or too long.
+    PayloadSize,
+    /// 11: another message's number.
+    Message,
+    /// 12: a field, or its four length bytes, passes the end.
+    PastEnd,
+    /// 13: bytes are left over.
+    LeftOver,
+    /// 14: a field's length is not allowed.
+    FieldLength,
+    /// 15: a NIST point does not begin with 4.
+    LeadByte,
+    /// 16: the classical primitive failed, or gave zero where that is refused.
+    Classical,
+    /// 17: the KEM failed.
+    Kem,
+    /// 18: signature or host key not accepted.
+    Verdict,
+    /// 19: a bad name in a list.
+    BadName,
+    /// 20: no common method.
+    NoCommonMethod,
+    /// 21: no common host key name.
+    NoCommonHostKey,
+    /// 22: an mpint that could be shorter.
+    NotShortest,
+    /// Any other number, which no archive of this version gives.
+    Other(u64),
+}
+
+/// Each number with its refusal and the header's sentence for it.
+const ALL: [(u64, Refusal, &str); 18] = [
+    (1, Refusal::NotDue, "the step is not due, or the bytes lent for the exchange are none"),
+    (2, Refusal::NoMethod, "there is no such method or role"),
+    (3, Refusal::ShortRoom, "the room is too short"),
+    (4, Refusal::BadInput, "a field, outcome or digest handed in has a wrong length or form"),
+    (5, Refusal::ShortOutput, "an output is too short"),
+    (10, Refusal::PayloadSize, "the peer's payload is empty or too long"),
+    (11, Refusal::Message, "the peer's payload is another message"),
+    (12, Refusal::PastEnd, "a field of the peer's payload passes its end"),
+    (13, Refusal::LeftOver, "the peer's payload has bytes left over"),
+    (14, Refusal::FieldLength, "a field of the peer's payload has a length that is not allowed"),
+    (15, Refusal::LeadByte, "the peer's point does not begin with 4"),
+    (16, Refusal::Classical, "the classical primitive failed, or gave all zeros"),
+    (17, Refusal::Kem, "the KEM failed"),
+    (18, Refusal::Verdict, "the signature or the host key is not accepted"),
+    (19, Refusal::BadName, "a list has a bad name"),
+    (20, Refusal::NoCommonMethod, "the two sides have no method in common"),
+    (21, Refusal::NoCommonHostKey, "the two sides have no host key algorithm in common"),
+    (22, Refusal::NotShortest, "an mpint could be shorter"),
+];
+
+impl Refusal {
+    fn row(self) -> (u64, &'static str) {
+        match self {
+            Refusal::Other(number) => (number, "no number of this library"),
+            known => ALL.iter().find(|row| row.1 == known).map_or((0, ""), |row| (row.0, row.2)),
+        }
+    }
+
+    /// The core's number.
+    pub fn number(self) -> u64 {
+        self.row().0
+    }
+
+    /// The refusal of a number other than 0.
+    pub fn of(number: u64) -> Refusal {
+        ALL.iter().find(|row| row.0 == number).map_or(Refusal::Other(number), |row| row.1)
+    }
+
+    /// Whether it ends an exchange for good where a step gave it: the peer's fault, 10 to 18.
+    pub fn ends_exchange(self) -> bool {
+        (10..=18).contains(&self.number())
+    }
+}
+
+impl fmt::Display for Refusal {
+    fn fmt(&self, f: &mut fmt::Formatter<'_>) -> fmt::Result {
+        let (number, sentence) = self.row();
+        write!(f, "{} ({})", sentence, number)
+    }
+}
+
+impl core::error::Error for Refusal {}
+
+/// A number as a result.
+pub(crate) fn judged(number: u64) -> Result<(), Refusal> {
+    match number {
+        0 => Ok(()),
+        n => Err(Refusal::of(n)),
+    }
+}

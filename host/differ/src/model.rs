@@ -1,0 +1,157 @@
+//! The plain implementation behind the boundary: document 01's answer to a call, told as the header says.
+use crate::calls::Call;
+use crate::stored::{bytes_of, exchange_of, forge, numbers_of, EXCHANGE};
+use plain::{Answer, Classical, Exchange, Kem, Part};
+
+/// What a call gave, on either side: its number, what it told through lent numbers, what the calls of their own for the four
+/// parts of a payload gave (number, start and length of each), and the state after it.
+#[derive(Clone, Copy, Debug, Default, PartialEq)]
+pub struct Given {
+    pub number: u64,
+    pub told: [u64; 6],
+    pub parts: [[u64; 3]; 4],
+    pub state: [u64; 5],
+}
+
+/// What is lent on the plain implementation's side.
+#[derive(Default)]
+pub struct Side {
+    pub exchange: Vec<u8>,
+    pub room: Vec<u8>,
+    pub out: Vec<u8>,
+    pub k_out: Vec<u8>,
+    /// A room to try a step in.
+    tried: Vec<u8>,
+}
+
+/// A role or method as the plain implementation takes it: 255, which is neither, where a byte cannot say it.
+fn byte(n: u64) -> u8 {
+    u8::try_from(n).unwrap_or(255)
+}
+
+/// The KEM's outcome for the plain implementation; a number that is none is an outcome of a wrong form, as a wrong presence is.
+fn kem_of(method: u8, kem: u64) -> Kem {
+    match kem {
+        0 => Kem::Absent,
+        1 => Kem::Failed,
+        2 => Kem::Done,
+        _ if plain::method(method).is_some_and(|m| m.hybrid) => Kem::Absent,
+        _ => Kem::Done,
+    }
+}
+
+fn six(parts: &[Part]) -> [u64; 6] {
+    let mut all = [0; 6];
+    for (two, part) in all.chunks_exact_mut(2).zip(parts) {
+        two.copy_from_slice(&[part.start as u64, part.len as u64]);
+    }
+    all
+}
+
+impl Side {
+    /// An exchange that failed with 0, as in bytes that nobody started one in, and no room.
+    pub fn new() -> Side {
+        Side { exchange: bytes_of(&Exchange::default()).to_vec(), ..Side::default() }
+    }
+
+    /// Lends the outputs of a call afresh, and does what is no call of the core: a room or an exchange lent, or somebody's hand
+    /// in them.
+    fn before(&mut self, call: &Call) {
+        self.out.clear();
+        self.k_out.clear();
+        match call {
+            Call::Room(f) => self.room = f.bytes(),
+            Call::Poke(at, bytes) => self.room[*at..at + bytes.len()].copy_from_slice(bytes),
+            Call::Forge(field, to) => forge(&mut self.exchange, *field, *to),
+            Call::Lend(bytes) => self.exchange.clone_from(bytes),
+            Call::OwnC { out, .. } => self.out = out.bytes(),
+            Call::Sign { out, k_out, .. } => {
+                self.out = out.bytes();
+                self.k_out = k_out.bytes();
+            }
+            Call::Verdict { k_out, .. } => self.k_out = k_out.bytes(),
+            _ => {}
+        }
+    }
+
+    /// Stage, fail number, role and method, behind the number of asking for them.
+    fn state(&self) -> [u64; 5] {
+        exchange_of(&self.exchange).map_or([1, 0, 0, 0, 0], |e| {
+            let (stage, fail) = numbers_of(e.stage);
+            [0, stage.into(), fail.into(), e.role.into(), e.method.into()]
+        })
+    }
+
+    /// What INIT's and REPLY's steps would answer, tried in a copy of the room, and the parts that they would tell.
+    fn parts(&mut self, e: &Exchange, payload: &[u8]) -> [[u64; 3]; 4] {
+        let mut try_step = |step: fn(Exchange, &mut [u8], &[u8]) -> Answer| {
+            self.tried.clone_from(&self.room);
+            u64::from(step(*e, &mut self.tried, payload).number)
+        };
+        let (init, reply) = (try_step(plain::read_init), try_step(plain::read_reply));
+        let [k_s, s, signature] = plain::reply_parts(e, &self.room, payload);
+        let c = plain::init_c(e, &self.room, payload);
+        [(init, c), (reply, k_s), (reply, s), (reply, signature)].map(|(number, p)| [number, p.start as u64, p.len as u64])
+    }
+
+    /// The call on the plain implementation. Bytes that no exchange has are answered 1 and stay; the calls for parts are made
+    /// with any payload.
+    pub fn call(&mut self, call: &Call) -> Given {
+        self.before(call);
+        let mut given = Given::default();
+        match call {
+            Call::Room(_) | Call::Poke(..) | Call::Forge(..) | Call::Lend(_) | Call::Old { .. } => {}
+            Call::Start { .. } if self.exchange.len() != EXCHANGE => given.number = 1,
+            Call::Start { role, method, vc, vs, ic, is } => {
+                let a = plain::start(byte(*role), byte(*method), vc, vs, ic, is, &mut self.room);
+                given.number = a.number.into();
+                self.exchange.copy_from_slice(&bytes_of(&a.exchange));
+            }
+            _ => match exchange_of(&self.exchange) {
+                Some(e) => given = self.step(e, call),
+                None => {
+                    given.number = 1;
+                    if matches!(call, Call::Init(_) | Call::Reply(_)) {
+                        given.parts = [[1, 0, 0]; 4];
+                    }
+                }
+            },
+        }
+        given.state = self.state();
+        given
+    }
+
+    fn step(&mut self, e: Exchange, call: &Call) -> Given {
+        let mut given = Given::default();
+        if let Call::Init(p) | Call::Reply(p) = call {
+            given.parts = self.parts(&e, p);
+        }
+        let room = &mut self.room;
+        let mut parts = [Part::default(); 3];
+        let a = match call {
+            Call::OwnC { c, .. } => plain::own_c(e, room, c, &mut self.out),
+            Call::Init(p) => {
+                parts[0] = plain::init_c(&e, room, p);
+                plain::read_init(e, room, p)
+            }
+            Call::Reply(p) => {
+                parts = plain::reply_parts(&e, room, p);
+                plain::read_reply(e, room, p)
+            }
+            Call::Secret { given, x_count, x, kem, digest, ks, s } => {
+                let classical = if *given == 1 { Classical::Given(*x_count as usize) } else { Classical::Failed };
+                plain::take_secret(e, room, classical, x, kem_of(e.method, *kem), digest, ks, s)
+            }
+            Call::Sign { signature, .. } => plain::sign(e, room, signature, &mut self.out, &mut self.k_out),
+            Call::Verdict { signature, host_key, .. } => plain::verdict(e, room, *signature == 1, *host_key == 1, &mut self.k_out),
+            _ => unreachable!("no step"),
+        };
+        given.number = a.number.into();
+        given.told = match call {
+            Call::Init(_) | Call::Reply(_) => six(&parts),
+            _ => [a.count as u64, a.second as u64, 0, 0, 0, 0],
+        };
+        self.exchange.copy_from_slice(&bytes_of(&a.exchange));
+        given
+    }
+}

@@ -1,0 +1,616 @@
+/* The header against the library: exchanges, all nine methods in both roles, with every cause tried on the way. The messages and the hash
+   input are laid out here by hand. */
+#include "header_test.h"
+
+#define EX CASTULFRISA_EXCHANGE
+#define ROOM CASTULFRISA_ROOM
+
+/* A byte more each, which no call may touch. */
+typedef struct { uint8_t exchange[EX + 1], room[ROOM + 1]; } side;
+
+static side client, server;
+
+/* ---- what the steps are handed, and what they must make of it */
+
+static castulfrisa_sizes z;
+static uint8_t v_c[CASTULFRISA_V_MOST + 1], v_s[CASTULFRISA_V_MOST + 1];
+static uint8_t i_c[CASTULFRISA_KEXINIT_MOST + 1], i_s[CASTULFRISA_KEXINIT_MOST + 1];
+static uint8_t c[CASTULFRISA_VALUE_MOST + 1], s[CASTULFRISA_VALUE_MOST + 1];
+static uint8_t x[CASTULFRISA_X_MOST + 1], digest[CASTULFRISA_DIGEST_MOST + 1];
+static uint8_t ks[CASTULFRISA_BLOB_MOST + 1], signature[CASTULFRISA_BLOB_MOST + 1];
+static const uint64_t v_c_len = 9, v_s_len = 8, i_c_len = 70, i_s_len = 80, ks_len = 11, signature_len = 7;
+
+static uint8_t init[CASTULFRISA_INIT], reply[CASTULFRISA_REPLY], hashed[ROOM], k[CASTULFRISA_K];
+static uint64_t init_len, reply_len, started_len, hashed_len, k_len;
+
+static uint64_t put(uint8_t *at, const uint8_t *body, uint64_t len)
+{
+    at[0] = at[1] = 0;
+    at[2] = (uint8_t)(len >> 8);
+    at[3] = (uint8_t)len;
+    memcpy(at + 4, body, len);
+    return 4 + len;
+}
+
+static int is_nist(void) { return method >= CASTULFRISA_NISTP256_SHA256 && method <= CASTULFRISA_MLKEM1024_NISTP384_SHA384; }
+
+static void material(uint64_t m)
+{
+    method = m;
+    is(castulfrisa_method_sizes(m, &z) == 0, "a method");
+    memset(v_c, 'c', sizeof v_c);
+    memset(v_s, 's', sizeof v_s);
+    memset(i_c, 20, sizeof i_c);
+    memset(i_s, 20, sizeof i_s);
+    memset(c, 4, sizeof c);
+    memset(s, 4, sizeof s);
+    memset(x, 0x91, sizeof x);
+    memset(digest, 0x92, sizeof digest);
+    memset(ks, 0x4b, sizeof ks);
+    memset(signature, 0x77, sizeof signature);
+
+    /* K: of a hybrid the digest's string, of the others X as an mpint, a zero longer for its high bit */
+    memset(k, 0, sizeof k);
+    k_len = z.hybrid ? put(k, digest, z.digest_len) : put(k, x, z.x_len + 1);
+    if (!z.hybrid) k[4] = 0;
+
+    init[0] = 30;
+    init_len = 1 + put(init + 1, c, z.c_len);
+    reply[0] = 31;
+    reply_len = 1 + put(reply + 1, ks, ks_len);
+    reply_len += put(reply + reply_len, s, z.s_len);
+    reply_len += put(reply + reply_len, signature, signature_len);
+
+    hashed_len = put(hashed, v_c, v_c_len);
+    hashed_len += put(hashed + hashed_len, v_s, v_s_len);
+    hashed_len += put(hashed + hashed_len, i_c, i_c_len);
+    hashed_len += put(hashed + hashed_len, i_s, i_s_len);
+    started_len = hashed_len;
+    hashed_len += put(hashed + hashed_len, ks, ks_len);
+    hashed_len += put(hashed + hashed_len, c, z.c_len);
+    hashed_len += put(hashed + hashed_len, s, z.s_len);
+    memcpy(hashed + hashed_len, k, k_len);
+    hashed_len += k_len;
+}
+
+/* What start and take_secret are handed: the right inputs, of which a test changes one. */
+typedef struct {
+    uint64_t role, method;
+    const uint8_t *v_c, *v_s;
+    uint64_t v_c_len, v_s_len, i_c_len, i_s_len, exchange_len, room_len;
+} opening;
+
+typedef struct {
+    uint64_t given, x_count;
+    const uint8_t *x;
+    uint64_t x_len, kem;
+    const uint8_t *digest, *ks, *s;
+    uint64_t digest_len, ks_len, s_len;
+} outcome;
+
+static opening right_opening(uint64_t role)
+{
+    opening o = {role, method, v_c, v_s, v_c_len, v_s_len, i_c_len, i_s_len, EX, ROOM};
+    return o;
+}
+
+static outcome right_outcome(void)
+{
+    outcome o = {1, z.x_len, x, z.x_len, z.hybrid ? CASTULFRISA_KEM_DONE : CASTULFRISA_KEM_ABSENT,
+                 digest, ks, s, z.hybrid ? z.digest_len : 0, ks_len, z.s_len};
+    return o;
+}
+
+/* ---- the calls, with the right inputs, an exchange of e and a room of r bytes */
+
+static uint64_t told[8]; /* what they tell, and numbers behind it that are not theirs */
+static uint8_t out[CASTULFRISA_REPLY + 1], k_out[CASTULFRISA_K + 1];
+
+typedef uint64_t (*call)(side *a, uint64_t e, uint64_t r);
+
+static uint64_t start(side *a, const opening *o)
+{
+    return castulfrisa_start(a->exchange, o->exchange_len, o->role, o->method, o->v_c, o->v_c_len, o->v_s, o->v_s_len, i_c, o->i_c_len,
+                             i_s, o->i_s_len, a->room, o->room_len);
+}
+
+static uint64_t give(side *a, uint64_t e, uint64_t r, const outcome *o)
+{
+    return castulfrisa_take_secret(a->exchange, e, a->room, r, o->given, o->x_count, o->x, o->x_len, o->kem, o->digest, o->digest_len,
+                                   o->ks, o->ks_len, o->s, o->s_len, told);
+}
+
+static uint64_t own_c(side *a, uint64_t e, uint64_t r)
+{
+    return castulfrisa_own_c(a->exchange, e, a->room, r, c, z.c_len, out, CASTULFRISA_INIT, told);
+}
+
+static uint64_t read_init(side *a, uint64_t e, uint64_t r)
+{
+    return castulfrisa_read_init(a->exchange, e, a->room, r, init, init_len, (castulfrisa_part *)told);
+}
+
+static uint64_t read_reply(side *a, uint64_t e, uint64_t r)
+{
+    return castulfrisa_read_reply(a->exchange, e, a->room, r, reply, reply_len, (castulfrisa_reply *)told);
+}
+
+static uint64_t take_secret(side *a, uint64_t e, uint64_t r)
+{
+    outcome o = right_outcome();
+    return give(a, e, r, &o);
+}
+
+static uint64_t sign(side *a, uint64_t e, uint64_t r)
+{
+    return castulfrisa_sign(a->exchange, e, a->room, r, signature, signature_len, out, CASTULFRISA_REPLY, k_out, CASTULFRISA_K,
+                            (castulfrisa_signed *)told);
+}
+
+static uint64_t verdict(side *a, uint64_t e, uint64_t r)
+{
+    return castulfrisa_verdict(a->exchange, e, a->room, r, 1, 1, k_out, CASTULFRISA_K, told);
+}
+
+static uint64_t init_c(side *a, uint64_t e, uint64_t r)
+{
+    return castulfrisa_init_c(a->exchange, e, a->room, r, init, init_len, (castulfrisa_part *)told);
+}
+
+static uint64_t reply_host_key(side *a, uint64_t e, uint64_t r)
+{
+    return castulfrisa_reply_host_key(a->exchange, e, a->room, r, reply, reply_len, (castulfrisa_part *)told);
+}
+
+static uint64_t reply_s(side *a, uint64_t e, uint64_t r)
+{
+    return castulfrisa_reply_s(a->exchange, e, a->room, r, reply, reply_len, (castulfrisa_part *)told);
+}
+
+static uint64_t reply_signature(side *a, uint64_t e, uint64_t r)
+{
+    return castulfrisa_reply_signature(a->exchange, e, a->room, r, reply, reply_len, (castulfrisa_part *)told);
+}
+
+/* Each, the step that must be due for it, and how many numbers it tells. */
+static const struct { call make, due; size_t numbers; } calls[] = {
+    {own_c, own_c, 1}, {read_init, read_init, 2}, {read_reply, read_reply, 6}, {take_secret, take_secret, 1}, {sign, sign, 2},
+    {verdict, verdict, 1}, {init_c, read_init, 2}, {reply_host_key, read_reply, 2}, {reply_s, read_reply, 2},
+    {reply_signature, read_reply, 2}};
+
+/* ---- what holds behind a call */
+
+static side was;
+
+static void before(const side *a)
+{
+    was = *a;
+    memset(told, FILL, sizeof told);
+    memset(out, FILL, sizeof out);
+    memset(k_out, FILL, sizeof k_out);
+}
+
+static int numbers_told(size_t numbers) { return all(told + numbers, FILL, sizeof told - 8 * numbers); }
+
+/* So many numbers were told, all of them 0, and outputs are as they were. */
+static int told_nothing(size_t numbers)
+{
+    return all(told, 0, 8 * numbers) && numbers_told(numbers) && all(out, FILL, sizeof out) && all(k_out, FILL, sizeof k_out);
+}
+
+static int same_room(const side *a) { return memcmp(a->room, was.room, sizeof was.room) == 0; }
+
+static int same(const side *a) { return same_room(a) && memcmp(a->exchange, was.exchange, sizeof was.exchange) == 0; }
+
+static int state_is(const side *a, uint64_t stage, uint64_t fail, uint64_t role, uint64_t m)
+{
+    LEND(castulfrisa_told, t);
+    return castulfrisa_state(a->exchange, EX, &t.told) == 0 && KEPT(t) && t.told.stage == stage && t.told.fail == fail
+        && t.told.role == role && t.told.method == m;
+}
+
+static int no_state(const side *a, uint64_t len)
+{
+    LEND(castulfrisa_told, t);
+    return castulfrisa_state(a->exchange, len, &t.told) == CASTULFRISA_NOT_DUE && ZERO(t);
+}
+
+/* Whether some four bytes of K stand one behind another in an exchange. */
+static int holds_k(const side *a)
+{
+    size_t i, j;
+    for (i = 0; i + 4 <= EX; i++)
+        for (j = 5; j + 4 <= k_len; j++)
+            if (memcmp(a->exchange + i, k + j, 4) == 0) return 1;
+    return 0;
+}
+
+static int k_is_out(void) { return memcmp(k_out, k, CASTULFRISA_K) == 0 && k_out[CASTULFRISA_K] == FILL; }
+
+/* Every call but those that are due is answered 1, and nothing changes. */
+static void answered_1(side *a, uint64_t e, uint64_t r, call due, const char *what)
+{
+    size_t i;
+    for (i = 0; i < COUNT(calls); i++)
+        if (calls[i].due != due) {
+            before(a);
+            is(calls[i].make(a, e, r) == CASTULFRISA_NOT_DUE && told_nothing(calls[i].numbers) && same(a), what);
+        }
+}
+
+/* Where a step is due: the others are not; 1 for an exchange of another length, and then 3 for a short room. */
+static void only(side *a, call due)
+{
+    size_t i;
+    answered_1(a, EX, ROOM, due, "1, not due");
+    answered_1(a, EX, 0, due, "1, not due, ahead of 3");
+    answered_1(a, EX - 1, ROOM, NULL, "1, an exchange of 89 bytes");
+    answered_1(a, EX + 1, ROOM, NULL, "1, an exchange of 91 bytes");
+    answered_1(a, 0, 0, NULL, "1, an exchange of no bytes, ahead of 3");
+    is(no_state(a, EX - 1) && no_state(a, EX + 1) && no_state(a, 0), "1, the state in 89, 91 and no bytes");
+    for (i = 0; i < COUNT(calls); i++)
+        if (calls[i].due == due) {
+            before(a);
+            is(calls[i].make(a, EX, ROOM - 1) == CASTULFRISA_SHORT_ROOM && told_nothing(calls[i].numbers) && same(a), "3");
+        }
+}
+
+/* A call that is refused, and changes nothing. */
+#define REFUSED(a, numbers, number, made, what) do { \
+    before(a); \
+    is((made) == (number) && told_nothing(numbers) && same(a), what); } while (0)
+
+/* A call on a copy of a side, `at`, that is a peer's fault: the room is zeros, of the exchange role, method and number are left, outputs
+   stay, and it has ended for good. */
+#define FAULT(a, role, numbers, number, made, what) do { \
+    static side copy; \
+    side *at = &copy; \
+    copy = *(a); \
+    before(at); \
+    is((made) == (number) && told_nothing(numbers), what); \
+    faulted(at, role, number, what); } while (0)
+
+static void faulted(side *a, uint64_t role, uint64_t number, const char *what)
+{
+    size_t i, left = 0;
+    is(all(a->room, 0, ROOM) && a->room[ROOM] == FILL && state_is(a, CASTULFRISA_FAILED, number, role, method), what);
+    for (i = 0; i < EX; i++) left += a->exchange[i] != 0;
+    is(left <= 5 && !holds_k(a) && a->exchange[EX] == FILL, "no length and no K in a failed exchange");
+    answered_1(a, EX, ROOM, NULL, "1, failed for good");
+}
+
+/* ---- the steps, one by one */
+
+/* A started exchange, in buffers that held something else. */
+static void started(side *a, uint64_t role)
+{
+    opening o = right_opening(role);
+    memset(a, FILL, sizeof *a);
+    is(start(a, &o) == 0 && state_is(a, CASTULFRISA_STARTED, 0, role, method), "start");
+    is(memcmp(a->room, hashed, started_len) == 0, "the four strings in the room");
+    is(all(a->room + started_len, FILL, sizeof a->room - started_len) && a->exchange[EX] == FILL, "and the rest as it was");
+}
+
+static void secret_refused(side *a, uint64_t role)
+{
+    static const uint8_t zero[CASTULFRISA_X_MOST] = {0};
+    static const uint64_t no_kem[] = {3, 255, 256, 256 + 1, 256 + 2, WIDE, WIDE + 1, WIDE + 2, UINT64_MAX}, no[] = {0, 2, 255, WIDE + 1};
+    static side copy;
+    outcome o;
+    size_t i;
+#define WRONG(change, what) do { \
+    o = right_outcome(); \
+    change; \
+    REFUSED(a, 1, CASTULFRISA_BAD_INPUT, give(a, EX, ROOM, &o), what); } while (0)
+
+    WRONG(o.x_count--, "4, the primitive gave less than is lent");
+    WRONG(o.x_count += WIDE, "4, a wide count of X");
+    WRONG(o.x_len--, "4, less lent than the primitive gave");
+    WRONG((o.x_count++, o.x_len++), "4, X too long");
+    WRONG((o.x_count--, o.x_len--), "4, X too short");
+    WRONG((o.x_count = o.x_len = 0, o.x = NULL), "4, no X");
+    WRONG(o.digest_len++, "4, the digest too long");
+    for (i = 0; i < COUNT(no_kem); i++) WRONG(o.kem = no_kem[i], "4, no outcome of a KEM");
+    if (z.hybrid) {
+        WRONG(o.kem = CASTULFRISA_KEM_ABSENT, "4, no KEM in a hybrid");
+        WRONG(o.digest_len--, "4, the digest too short");
+        o = right_outcome();
+        o.kem = CASTULFRISA_KEM_FAILED;
+        o.digest_len = 0;
+        FAULT(a, role, 1, CASTULFRISA_KEM, give(at, EX, ROOM, &o), "17");
+    } else {
+        WRONG(o.kem = CASTULFRISA_KEM_FAILED, "4, a KEM where there is none");
+        WRONG(o.kem = CASTULFRISA_KEM_DONE, "4, a KEM where there is none");
+    }
+    if (role == CASTULFRISA_SERVER) {
+        WRONG((o.ks = NULL, o.ks_len = 0), "4, no K_S");
+        WRONG(o.ks_len = CASTULFRISA_BLOB_MOST + 1, "4, K_S too long");
+        WRONG(o.s_len--, "4, S too short");
+        WRONG(o.s_len++, "4, S too long");
+        s[z.s_classical] = 5;
+        if (is_nist()) WRONG((void)0, "4, S does not begin with 4");
+        s[z.s_classical] = 4;
+    }
+#undef WRONG
+
+    /* every number but 1 says that the primitive failed, and X is not looked at */
+    for (i = 0; i < COUNT(no); i++) {
+        o = right_outcome();
+        o.given = no[i];
+        o.x_count = WIDE;
+        o.x = NULL;
+        o.x_len = o.digest_len = 0;
+        FAULT(a, role, 1, CASTULFRISA_CLASSICAL, give(at, EX, ROOM, &o), "16");
+    }
+    o = right_outcome();
+    o.x = zero;
+    if (z.zero_check) FAULT(a, role, 1, CASTULFRISA_CLASSICAL, give(at, EX, ROOM, &o), "16, X zero");
+    else {
+        copy = *a;
+        is(give(&copy, EX, ROOM, &o) == 0 && state_is(&copy, CASTULFRISA_SECRET_DONE, 0, role, method), "a zero X where it is not refused");
+    }
+}
+
+static void secret_taken(side *a, uint64_t role)
+{
+    only(a, take_secret);
+    secret_refused(a, role);
+    before(a);
+    is(take_secret(a, EX, ROOM) == 0 && told[0] == hashed_len && numbers_told(1), "the secret, and the hash input's length");
+    is(memcmp(a->room, hashed, hashed_len) == 0, "the hash input");
+    is(memcmp(a->room + hashed_len, was.room + hashed_len, sizeof was.room - hashed_len) == 0, "the room behind it");
+    is(state_is(a, CASTULFRISA_SECRET_DONE, 0, role, method) && a->exchange[EX] == FILL, "the state behind the secret");
+    is(holds_k(a), "K in the exchange");
+}
+
+static void c_sent(side *a)
+{
+    only(a, own_c);
+#define OWN_C(at_c, len, out_len) castulfrisa_own_c(a->exchange, EX, a->room, ROOM, at_c, len, out, out_len, told)
+    REFUSED(a, 1, CASTULFRISA_BAD_INPUT, OWN_C(c, z.c_len - 1, CASTULFRISA_INIT), "4, C too short");
+    REFUSED(a, 1, CASTULFRISA_BAD_INPUT, OWN_C(c, z.c_len + 1, CASTULFRISA_INIT), "4, C too long");
+    REFUSED(a, 1, CASTULFRISA_BAD_INPUT, OWN_C(NULL, 0, CASTULFRISA_INIT), "4, no C");
+    c[z.c_classical] = 5;
+    if (is_nist()) REFUSED(a, 1, CASTULFRISA_BAD_INPUT, OWN_C(c, z.c_len, CASTULFRISA_INIT), "4, C does not begin with 4");
+    c[z.c_classical] = 4;
+    REFUSED(a, 1, CASTULFRISA_SHORT_OUTPUT, OWN_C(c, z.c_len, CASTULFRISA_INIT - 1), "5, INIT");
+#undef OWN_C
+    before(a);
+    is(own_c(a, EX, ROOM) == 0 && told[0] == init_len && numbers_told(1), "own C");
+    is(memcmp(out, init, init_len) == 0 && all(out + init_len, FILL, sizeof out - init_len), "INIT, and nothing behind it");
+    is(state_is(a, CASTULFRISA_C_SENT, 0, CASTULFRISA_CLIENT, method), "C sent");
+}
+
+static void reply_read(side *a)
+{
+    castulfrisa_reply r;
+    only(a, read_reply);
+    before(a);
+    is(reply_host_key(a, EX, ROOM) == 0 && told[0] == 5 && told[1] == ks_len && numbers_told(2), "K_S's place");
+    is(reply_s(a, EX, ROOM) == 0 && told[0] == 9 + ks_len && told[1] == z.s_len && numbers_told(2), "S's place");
+    is(reply_signature(a, EX, ROOM) == 0 && told[0] == 13 + ks_len + z.s_len && told[1] == signature_len && numbers_told(2),
+       "the signature's place");
+    is(same(a), "telling changes nothing");
+    is(castulfrisa_read_reply(a->exchange, EX, a->room, ROOM, reply, reply_len, &r) == 0, "REPLY read");
+    is(part_is(r.host_key, 5, ks_len) && part_is(r.s, 9 + ks_len, z.s_len), "the places of K_S and S with the step");
+    is(part_is(r.signature, 13 + ks_len + z.s_len, signature_len), "the signature's place with the step");
+    is(state_is(a, CASTULFRISA_REPLY_READ, 0, CASTULFRISA_CLIENT, method), "the state behind REPLY");
+    is(memcmp(a->room, hashed, hashed_len - k_len) == 0, "the fields ahead of K");
+}
+
+static void verdict_given(side *a)
+{
+    static const uint64_t no[][2] = {{0, 1}, {1, 0}, {0, 0}, {2, 1}, {1, 2}, {WIDE + 1, 1}, {1, WIDE + 1}, {UINT64_MAX, UINT64_MAX}};
+    size_t i;
+    only(a, verdict);
+    REFUSED(a, 1, CASTULFRISA_SHORT_OUTPUT,
+            castulfrisa_verdict(a->exchange, EX, a->room, ROOM, 1, 1, k_out, CASTULFRISA_K - 1, told), "5, K");
+    for (i = 0; i < COUNT(no); i++)
+        FAULT(a, CASTULFRISA_CLIENT, 1, CASTULFRISA_VERDICT,
+              castulfrisa_verdict(at->exchange, EX, at->room, ROOM, no[i][0], no[i][1], k_out, CASTULFRISA_K, told), "18");
+    before(a);
+    is(verdict(a, EX, ROOM) == 0 && told[0] == k_len && numbers_told(1) && k_is_out(), "the verdict, and K");
+    is(same_room(a) && state_is(a, CASTULFRISA_COMPLETE, 0, CASTULFRISA_CLIENT, method), "a client complete");
+    answered_1(a, EX, ROOM, NULL, "1, complete");
+}
+
+static void init_read(side *a)
+{
+    castulfrisa_part p;
+    only(a, read_init);
+    before(a);
+    is(init_c(a, EX, ROOM) == 0 && told[0] == 5 && told[1] == z.c_len && numbers_told(2) && same(a), "C's place, and nothing changed");
+    is(castulfrisa_read_init(a->exchange, EX, a->room, ROOM, init, init_len, &p) == 0 && part_is(p, 5, z.c_len), "INIT read");
+    is(state_is(a, CASTULFRISA_INIT_READ, 0, CASTULFRISA_SERVER, method), "the state behind INIT");
+}
+
+static void reply_signed(side *a)
+{
+    castulfrisa_signed g;
+    only(a, sign);
+#define SIGN(len, out_len, k_out_len) \
+    castulfrisa_sign(a->exchange, EX, a->room, ROOM, signature, len, out, out_len, k_out, k_out_len, (castulfrisa_signed *)told)
+    REFUSED(a, 2, CASTULFRISA_BAD_INPUT, SIGN(0, CASTULFRISA_REPLY, CASTULFRISA_K), "4, no signature");
+    REFUSED(a, 2, CASTULFRISA_BAD_INPUT, SIGN(CASTULFRISA_BLOB_MOST + 1, CASTULFRISA_REPLY, CASTULFRISA_K), "4, signature too long");
+    REFUSED(a, 2, CASTULFRISA_SHORT_OUTPUT, SIGN(signature_len, CASTULFRISA_REPLY - 1, CASTULFRISA_K), "5, REPLY");
+    REFUSED(a, 2, CASTULFRISA_SHORT_OUTPUT, SIGN(signature_len, CASTULFRISA_REPLY, CASTULFRISA_K - 1), "5, a server's K");
+#undef SIGN
+    before(a);
+    is(castulfrisa_sign(a->exchange, EX, a->room, ROOM, signature, signature_len, out, CASTULFRISA_REPLY, k_out, CASTULFRISA_K, &g) == 0,
+       "the signature");
+    is(g.reply == reply_len && g.k == k_len && k_is_out(), "its counts, and K");
+    is(memcmp(out, reply, reply_len) == 0 && all(out + reply_len, FILL, sizeof out - reply_len), "REPLY, and nothing behind it");
+    is(same_room(a) && state_is(a, CASTULFRISA_COMPLETE, 0, CASTULFRISA_SERVER, method), "a server complete");
+    answered_1(a, EX, ROOM, NULL, "1, complete");
+}
+
+/* ---- what is refused at the start, what ends an exchange, and what is none */
+
+/* A live exchange stands where the start is refused: it is gone, and the room stays. */
+static void start_refused(const opening *o, uint64_t number, const char *what)
+{
+    side *a = &client;
+    started(a, CASTULFRISA_CLIENT);
+    before(a);
+    is(start(a, o) == number && same_room(a) && a->exchange[EX] == FILL, what);
+    is(state_is(a, CASTULFRISA_FAILED, number, 0, 0), what);
+    answered_1(a, EX, ROOM, NULL, "1, a refused start");
+}
+
+static void starts_refused(void)
+{
+    static const uint64_t no_role[] = {0, 3, 255, 256 + 1, WIDE + 1, WIDE + 2, UINT64_MAX};
+    static const uint64_t no_method[] = {0, 10, 255, 256, 256 + 1, WIDE + 1, UINT64_MAX};
+    opening o;
+    uint64_t e;
+    size_t i;
+#define WRONG(change, number, what) do { \
+    o = right_opening(CASTULFRISA_CLIENT); \
+    change; \
+    start_refused(&o, number, what); } while (0)
+
+    for (i = 0; i < COUNT(no_role); i++) WRONG(o.role = no_role[i], CASTULFRISA_NO_METHOD, "2, no role");
+    for (i = 0; i < COUNT(no_method); i++) WRONG(o.method = no_method[i], CASTULFRISA_NO_METHOD, "2, no method");
+    WRONG(o.room_len--, CASTULFRISA_SHORT_ROOM, "3, a start");
+    WRONG((o.v_c = NULL, o.v_c_len = 0), CASTULFRISA_BAD_INPUT, "4, no V_C");
+    WRONG(o.v_c_len = CASTULFRISA_V_MOST + 1, CASTULFRISA_BAD_INPUT, "4, V_C too long");
+    WRONG((o.v_c = b("a\rb"), o.v_c_len = 3), CASTULFRISA_BAD_INPUT, "4, V_C with a 13");
+    WRONG((o.v_c = b("a\nb"), o.v_c_len = 3), CASTULFRISA_BAD_INPUT, "4, V_C with a 10");
+    WRONG((o.v_s = NULL, o.v_s_len = 0), CASTULFRISA_BAD_INPUT, "4, no V_S");
+    WRONG(o.v_s_len = CASTULFRISA_V_MOST + 1, CASTULFRISA_BAD_INPUT, "4, V_S too long");
+    WRONG((o.v_s = b("a\0b"), o.v_s_len = 3), CASTULFRISA_BAD_INPUT, "4, V_S with a 0");
+    WRONG(o.i_c_len = 0, CASTULFRISA_BAD_INPUT, "4, no I_C");
+    WRONG(o.i_c_len = CASTULFRISA_KEXINIT_MOST + 1, CASTULFRISA_BAD_INPUT, "4, I_C too long");
+    WRONG(o.i_s_len = 0, CASTULFRISA_BAD_INPUT, "4, no I_S");
+    WRONG(o.i_s_len = CASTULFRISA_KEXINIT_MOST + 1, CASTULFRISA_BAD_INPUT, "4, I_S too long");
+#undef WRONG
+
+    for (e = EX - 1; e <= EX + 1; e += 2) {
+        started(&client, CASTULFRISA_CLIENT);
+        o = right_opening(CASTULFRISA_CLIENT);
+        o.exchange_len = e;
+        REFUSED(&client, 0, CASTULFRISA_NOT_DUE, start(&client, &o), "1, a start in 89 or 91 bytes");
+        o.role = o.room_len = o.v_c_len = 0;
+        REFUSED(&client, 0, CASTULFRISA_NOT_DUE, start(&client, &o), "1, a start in 89 or 91 bytes, ahead of 2, 3 and 4");
+    }
+    o = right_opening(CASTULFRISA_CLIENT);
+    o.v_c_len = o.v_s_len = CASTULFRISA_V_MOST;
+    o.i_c_len = o.i_s_len = CASTULFRISA_KEXINIT_MOST;
+    is(start(&client, &o) == 0, "the longest four");
+}
+
+/* A start whose I_C or I_S is no KEXINIT: it must begin with 20. */
+static void no_kexinit(uint8_t *payload)
+{
+    opening o = right_opening(CASTULFRISA_CLIENT);
+    side *a = &client;
+    started(a, CASTULFRISA_CLIENT);
+    payload[0] = 21;
+    is(start(a, &o) == CASTULFRISA_BAD_INPUT && state_is(a, CASTULFRISA_FAILED, CASTULFRISA_BAD_INPUT, 0, 0), "4, no KEXINIT");
+    payload[0] = 20;
+}
+
+/* Payloads that are no INIT or REPLY: whole but for one thing. Their value is a NIST curve's, so that there is a first byte to spoil. */
+static void peers_faults(void)
+{
+    static const uint64_t want[] = {CASTULFRISA_PAYLOAD_SIZE, CASTULFRISA_PAYLOAD_SIZE, CASTULFRISA_MESSAGE, CASTULFRISA_PAST_END,
+                                    CASTULFRISA_LEFT_OVER, CASTULFRISA_FIELD_LENGTH, CASTULFRISA_LEAD_BYTE};
+    enum { NONE, LONG, OTHER, CUT, MORE, LENGTH, LEAD };
+    static uint8_t p[CASTULFRISA_PAYLOAD_MOST + 1];
+    const uint64_t s_at = 5 + ks_len; /* S's four length bytes in REPLY */
+    uint64_t n;
+    size_t i;
+    castulfrisa_part *part = (castulfrisa_part *)told;
+
+    for (i = 0; i < COUNT(want); i++) {
+        memset(p, 0, sizeof p);
+        memcpy(p, init, init_len);
+        if (i == OTHER) p[0] = 31;
+        if (i == LENGTH) p[4]++;
+        if (i == LEAD) p[5 + z.c_classical] = 5;
+        n = i == NONE ? 0 : i == LONG ? sizeof p : i == CUT ? init_len - 1 : i == MORE || i == LENGTH ? init_len + 1 : init_len;
+        REFUSED(&server, 2, want[i], castulfrisa_init_c(server.exchange, EX, server.room, ROOM, p, n, part), "10 to 15, C told");
+        FAULT(&server, CASTULFRISA_SERVER, 2, want[i],
+              castulfrisa_read_init(at->exchange, EX, at->room, ROOM, p, n, part), "10 to 15, INIT");
+    }
+    for (i = 0; i < COUNT(want); i++) {
+        memset(p, 0, sizeof p);
+        memcpy(p, reply, reply_len);
+        if (i == OTHER) p[0] = 30;
+        if (i == LENGTH) {
+            p[s_at + 3]++;
+            memcpy(p + s_at + 5 + z.s_len, reply + s_at + 4 + z.s_len, 4 + signature_len);
+        }
+        if (i == LEAD) p[s_at + 4 + z.s_classical] = 5;
+        n = i == NONE ? 0 : i == LONG ? sizeof p : i == CUT ? reply_len - 1 : i == MORE || i == LENGTH ? reply_len + 1 : reply_len;
+        REFUSED(&client, 2, want[i], castulfrisa_reply_host_key(client.exchange, EX, client.room, ROOM, p, n, part), "10 to 15, K_S told");
+        REFUSED(&client, 2, want[i], castulfrisa_reply_s(client.exchange, EX, client.room, ROOM, p, n, part), "10 to 15, S told");
+        REFUSED(&client, 2, want[i], castulfrisa_reply_signature(client.exchange, EX, client.room, ROOM, p, n, part),
+                "10 to 15, the signature told");
+        FAULT(&client, CASTULFRISA_CLIENT, 6, want[i],
+              castulfrisa_read_reply(at->exchange, EX, at->room, ROOM, p, n, (castulfrisa_reply *)told), "10 to 15, REPLY");
+    }
+}
+
+/* A client behind its secret, one of its first bytes spoiled, then wiped: 1, and all stays. */
+static void no_exchanges(void)
+{
+    /* the mark, the stage, the number that ended it, the role, the method */
+    static const uint8_t spoiled[][2] = {{0, 0}, {0, 2}, {0, 255}, {1, 7}, {1, 255}, {2, 1}, {2, 18}, {3, 0}, {3, 3}, {3, 255},
+                                         {4, 0}, {4, 10}, {4, 255}};
+    static side whole;
+    side *a = &client;
+    size_t i;
+
+    started(a, CASTULFRISA_CLIENT);
+    is(own_c(a, EX, ROOM) == 0 && read_reply(a, EX, ROOM) == 0 && take_secret(a, EX, ROOM) == 0, "a client behind its secret");
+    whole = *a;
+    for (i = 0; i < COUNT(spoiled); i++) {
+        *a = whole;
+        a->exchange[spoiled[i][0]] = spoiled[i][1];
+        answered_1(a, EX, ROOM, NULL, "1, one of the first bytes spoiled");
+        if (spoiled[i][0] < 3) is(no_state(a, EX), "1, the state of what is no exchange");
+    }
+    *a = whole;
+    castulfrisa_wipe(a->exchange, EX);
+    is(all(a->exchange, 0, EX) && a->exchange[EX] == FILL, "a wiped exchange, and the byte behind it");
+    is(no_state(a, EX), "1, the state of a wiped exchange");
+    answered_1(a, EX, ROOM, NULL, "1, a wiped exchange");
+    castulfrisa_wipe(a->room, ROOM);
+    is(all(a->room, 0, ROOM) && a->room[ROOM] == FILL, "a wiped room, and the byte behind it");
+    castulfrisa_wipe(NULL, 0);
+    *a = whole;
+    is(verdict(a, EX, ROOM) == 0, "and the whole one goes on");
+}
+
+void exchanges(void)
+{
+    uint64_t m;
+    for (m = 1; m <= 9; m++) {
+        material(m);
+        started(&client, CASTULFRISA_CLIENT);
+        c_sent(&client);
+        reply_read(&client);
+        secret_taken(&client, CASTULFRISA_CLIENT);
+        verdict_given(&client);
+
+        started(&server, CASTULFRISA_SERVER);
+        init_read(&server);
+        secret_taken(&server, CASTULFRISA_SERVER);
+        reply_signed(&server);
+
+        if (is_nist()) {
+            started(&server, CASTULFRISA_SERVER);
+            started(&client, CASTULFRISA_CLIENT);
+            is(own_c(&client, EX, ROOM) == 0, "a client that waits for REPLY");
+            peers_faults();
+        }
+    }
+    material(CASTULFRISA_CURVE25519_SHA256);
+    starts_refused();
+    no_kexinit(i_c);
+    no_kexinit(i_s);
+    no_exchanges();
+    castulfrisa_wipe_stack(); /* what it does: stack_test.c */
+    method = 0;
+}

@@ -1,0 +1,223 @@
+/* What the calls leave of the shared secret on the stack below their caller, how deep each goes, and that castulfrisa_wipe_stack leaves
+   nothing of it. The stack is painted, a call is made, and what stands below is looked at without another call in between. Not for the
+   sanitizers: they lay out the stack in their own way. */
+#include "castulfrisa.h"
+#include <stdio.h>
+#include <string.h>
+
+#define DEPTH 32768 /* painted: far more than any call takes */
+#define PAINT 0xd5
+#define PIECE 8 /* so many bytes of a secret in a row, as a register holds them, are a copy */
+#define EX CASTULFRISA_EXCHANGE
+#define ROOM CASTULFRISA_ROOM
+#define NOINLINE __attribute__((noinline))
+
+/* ---- the stack */
+
+static uintptr_t top;                     /* where the frame ends that had the stack painted */
+static uint8_t left[DEPTH], wiped[DEPTH]; /* what a call left below that frame, and what the wiping left of it */
+static int failed;
+
+static NOINLINE void paint(void)
+{
+    volatile uint8_t below[DEPTH];
+    size_t i;
+    for (i = 0; i < DEPTH; i++) below[i] = PAINT;
+    top = (uintptr_t)__builtin_frame_address(0);
+    if ((uintptr_t)below > top - DEPTH) failed = 1; /* less than is looked at */
+}
+
+/* In its caller's own frame, and with no call: a frame of its own would lie on what is to be seen. */
+static inline __attribute__((always_inline)) void look(uint8_t *to)
+{
+    size_t i;
+    for (i = 0; i < DEPTH; i++) to[i] = *(const volatile uint8_t *)(top - DEPTH + i);
+}
+
+/* ---- the secrets */
+
+static uint64_t method;
+static castulfrisa_sizes z;
+static uint8_t x[CASTULFRISA_X_MOST], digest[CASTULFRISA_DIGEST_MOST];
+
+static int piece_of(const uint8_t *at, const uint8_t *secret, size_t len)
+{
+    size_t i;
+    for (i = 0; i + PIECE <= len; i++)
+        if (memcmp(at, secret + i, PIECE) == 0) return 1;
+    return 0;
+}
+
+/* Copies of X or of the digest, whole or in part, and the bytes in them. */
+static size_t copies(const uint8_t *stack, size_t *bytes)
+{
+    size_t i, count = 0, end = 0; /* of the copy that was seen last */
+    *bytes = 0;
+    for (i = 0; i + PIECE <= DEPTH; i++)
+        if (piece_of(stack + i, x, z.x_len) || piece_of(stack + i, digest, z.digest_len)) {
+            if (i >= end) {
+                count++;
+                end = i;
+            }
+            *bytes += i + PIECE - end;
+            end = i + PIECE;
+        }
+    return count;
+}
+
+/* ---- what was seen of each call, over all methods */
+
+enum { SECRET_CLIENT, SECRET_SERVER, SIGN, VERDICT, VERDICT_NO, NOT_DUE, STATE, SHALLOW, DEEP, CALLS };
+static struct { const char *name; size_t copies, bytes, depth, wiped; } seen[CALLS] = {
+    {"take_secret, client", 0, 0, 0, 0}, {"take_secret, server", 0, 0, 0, 0}, {"sign", 0, 0, 0, 0}, {"verdict", 0, 0, 0, 0},
+    {"verdict, refused", 0, 0, 0, 0}, {"a step not due", 0, 0, 0, 0}, {"state", 0, 0, 0, 0}, {"planted", 0, 0, 0, 0},
+    {"planted too deep", 0, 0, 0, 0}};
+
+static size_t larger(size_t a, size_t b) { return a > b ? a : b; }
+
+static void note(int call, int held)
+{
+    size_t bytes, untouched = 0, count = copies(left, &bytes);
+    if (!held) {
+        printf("stack: method %u, %s: another answer than it must be\n", (unsigned)method, seen[call].name);
+        failed = 1;
+    }
+    while (untouched < DEPTH && left[untouched] == PAINT) untouched++;
+    seen[call].copies = larger(seen[call].copies, count);
+    seen[call].bytes = larger(seen[call].bytes, bytes);
+    seen[call].depth = larger(seen[call].depth, DEPTH - untouched);
+    seen[call].wiped = larger(seen[call].wiped, copies(wiped, &bytes));
+}
+
+/* One call from the frame that it stands in, looked at before and behind the wiping from there. */
+#define OBSERVE(call, made) do { \
+    int held; \
+    paint(); \
+    held = (made); \
+    look(left); \
+    castulfrisa_wipe_stack(); \
+    look(wiped); \
+    note(call, held); } while (0)
+
+/* ---- the calls */
+
+static uint8_t exchange[EX], room[ROOM], other_exchange[EX], other_room[ROOM];
+static uint8_t payload[CASTULFRISA_REPLY], value[CASTULFRISA_VALUE_MOST], out[CASTULFRISA_REPLY], k[CASTULFRISA_K];
+static uint64_t payload_len, count;
+static castulfrisa_signed counts;
+static castulfrisa_told told;
+
+static NOINLINE void secret(int call)
+{
+    uint64_t kem = z.hybrid ? CASTULFRISA_KEM_DONE : CASTULFRISA_KEM_ABSENT, digest_len = z.hybrid ? z.digest_len : 0;
+    OBSERVE(call, castulfrisa_take_secret(exchange, EX, room, ROOM, 1, z.x_len, x, z.x_len, kem, digest, digest_len, value, 9, value,
+                                          z.s_len, &count) == 0);
+}
+
+static NOINLINE void sign(void)
+{
+    OBSERVE(SIGN, castulfrisa_sign(exchange, EX, room, ROOM, value, 9, out, sizeof out, k, sizeof k, &counts) == 0);
+}
+
+static NOINLINE void verdict(void) { OBSERVE(VERDICT, castulfrisa_verdict(exchange, EX, room, ROOM, 1, 1, k, sizeof k, &count) == 0); }
+
+static NOINLINE void verdict_no(void)
+{
+    memcpy(other_exchange, exchange, EX);
+    memcpy(other_room, room, ROOM);
+    OBSERVE(VERDICT_NO, castulfrisa_verdict(other_exchange, EX, other_room, ROOM, 1, 0, k, sizeof k, &count) == CASTULFRISA_VERDICT);
+}
+
+static NOINLINE void not_due(void)
+{
+    OBSERVE(NOT_DUE, castulfrisa_own_c(exchange, EX, room, ROOM, value, z.c_len, out, sizeof out, &count) == CASTULFRISA_NOT_DUE);
+}
+
+static NOINLINE void state(void) { OBSERVE(STATE, castulfrisa_state(exchange, EX, &told) == 0); }
+
+/* What shows that copies are seen and wiped, and that those below the piece that is wiped are seen and not wiped. */
+static NOINLINE int plant(size_t below)
+{
+    volatile uint8_t here[2 * CASTULFRISA_STACK];
+    size_t i;
+    for (i = 0; i < z.x_len; i++) here[sizeof here - CASTULFRISA_X_MOST - below + i] = x[i];
+    return here[sizeof here - CASTULFRISA_X_MOST - below] == x[0];
+}
+
+static NOINLINE void planted(void) { OBSERVE(SHALLOW, plant(256)); }
+static NOINLINE void planted_too_deep(void) { OBSERVE(DEEP, plant(CASTULFRISA_STACK + 256)); }
+
+/* ---- the exchanges */
+
+static uint64_t put(uint8_t *at, uint64_t len)
+{
+    at[0] = at[1] = 0;
+    at[2] = (uint8_t)(len >> 8);
+    at[3] = (uint8_t)len;
+    memcpy(at + 4, value, len);
+    return 4 + len;
+}
+
+static void started(uint64_t role)
+{
+    static const uint8_t v[] = "v", i[] = {20};
+    castulfrisa_part c;
+    castulfrisa_reply parts;
+    int good = castulfrisa_start(exchange, EX, role, method, v, 1, v, 1, i, 1, i, 1, room, ROOM) == 0;
+    if (role == CASTULFRISA_CLIENT) {
+        payload[0] = 31;
+        payload_len = 1 + put(payload + 1, 9);
+        payload_len += put(payload + payload_len, z.s_len);
+        payload_len += put(payload + payload_len, 9);
+        good = good && castulfrisa_own_c(exchange, EX, room, ROOM, value, z.c_len, out, sizeof out, &count) == 0
+            && castulfrisa_read_reply(exchange, EX, room, ROOM, payload, payload_len, &parts) == 0;
+    } else {
+        payload[0] = 30;
+        payload_len = 1 + put(payload + 1, z.c_len);
+        good = good && castulfrisa_read_init(exchange, EX, room, ROOM, payload, payload_len, &c) == 0;
+    }
+    if (!good) {
+        printf("stack: method %u: no exchange to look at\n", (unsigned)method);
+        failed = 1;
+    }
+}
+
+int main(void)
+{
+    uint32_t r = 20261115;
+    size_t i, deepest = 0;
+
+    memset(value, 4, sizeof value);
+    for (i = 0; i < sizeof x; i++) x[i] = (uint8_t)((r = r * 1664525 + 1013904223) >> 24);
+    for (i = 0; i < sizeof digest; i++) digest[i] = (uint8_t)((r = r * 1664525 + 1013904223) >> 24);
+    for (method = 1; method <= 9; method++) {
+        if (castulfrisa_method_sizes(method, &z) != 0) return 1;
+        started(CASTULFRISA_CLIENT);
+        secret(SECRET_CLIENT);
+        state();
+        not_due();
+        verdict_no();
+        verdict();
+        started(CASTULFRISA_SERVER);
+        secret(SECRET_SERVER);
+        sign();
+        planted();
+        planted_too_deep();
+    }
+
+    for (i = 0; i < CALLS; i++) {
+        printf("stack: %-20s %2u copies, %4u bytes in them, %4u deep; wiped: %u copies\n", seen[i].name, (unsigned)seen[i].copies,
+               (unsigned)seen[i].bytes, (unsigned)seen[i].depth, (unsigned)seen[i].wiped);
+        if (i < SHALLOW) {
+            deepest = larger(deepest, seen[i].depth);
+            if (seen[i].wiped > 0) failed = 1;
+        }
+    }
+    if (deepest >= CASTULFRISA_STACK) failed = 1;
+    if (seen[SHALLOW].copies != 1 || seen[SHALLOW].wiped != 0 || seen[DEEP].copies != 1 || seen[DEEP].wiped != 1) {
+        puts("stack: what was planted is not seen");
+        failed = 1;
+    }
+    printf("stack: %u bytes deep at most, %u are wiped: %s\n", (unsigned)deepest, CASTULFRISA_STACK, failed ? "failed" : "ok");
+    return failed;
+}
