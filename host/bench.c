@@ -223,7 +223,7 @@ static uint8_t *handed(void)
 
 static void put_exchange(void)
 {
-    LEND(castulfrisa_told, told);
+    LEND(castulfrisa_progress, told);
     /* what is kept is always an exchange's, and the library reads in it what is shown */
     if (castulfrisa_state(exchange, sizeof exchange, &told) != 0 || told.stage != exchange[STAGE_AT] || told.fail != exchange[FAIL_AT]
         || told.role != exchange[ROLE_AT] || told.method != exchange[METHOD_AT])

@@ -7,15 +7,15 @@
    WHAT CROSSES
    - Buffers as a pointer and a 64-bit length in bytes, 64-bit numbers, and pointers to 64-bit numbers that the call fills in; nothing
      else, so that one library serves every calling convention. The structs below are runs of 64-bit numbers and cross as a pointer.
-   - A buffer's length of 0 takes any pointer, also NULL. A pointer to numbers is never NULL, and aligned as the compiler aligns them.
-   - Every buffer is the caller's, before, during and after a call. `const` buffers are read and never written. What is written,
-     buffer or numbers, shares no byte with anything else of the same call.
+   - A buffer's length of 0 takes any pointer, also NULL. A pointer to numbers is never NULL, and stands at a multiple of 8.
+   - Every buffer stays the caller's. `const` buffers are read and never written. What is written, buffer or numbers, shares no byte with
+     anything else of the same call; and while a call runs, nobody else writes what it was lent or reads what it writes.
    - An output is written from its first byte on. Bytes past those that are counted stay as they were; but the output for K gets all
      CASTULFRISA_K bytes, zeros after K.
 
    ANSWERS
    - A call returns its number: 0, or the first cause against it (enum castulfrisa_number; castulfrisa_text has a sentence for each).
-     There is no other error channel.
+     There is no other error channel. Only castulfrisa_method_number, castulfrisa_version and castulfrisa_join return something else.
    - On any number but 0 all that is told through lent numbers is 0, but a bad list's number and a cursor (castulfrisa_next_name's stays, a
      refused castulfrisa_open_list's yields only the end), and all outputs are as they were.
    - A part is a place in the payload that was handed in: bytes payload[start] to payload[start + len - 1].
@@ -26,7 +26,7 @@
    - It is a buffer of CASTULFRISA_EXCHANGE bytes, the caller's, which only the library reads and writes: castulfrisa_start makes it,
      every step changes it in place. Keep one, and no copy: a copy from before a fault is an exchange that has not failed, and it has K.
      Bytes that no exchange has, and buffers of another length, are answered 1 and stay.
-   - The room is the caller's buffer of at least CASTULFRISA_ROOM bytes, the same at every call of one exchange, and nobody else
+   - The room is the caller's buffer of at least CASTULFRISA_ROOM bytes, the same at every call of one exchange and no other's, and nobody
      writes to it in between. It begins with the fields of the hash input so far.
    - From the secret step on, exchange and room hold the shared secret. The library wipes both on a peer's fault only: when the keys are
      derived, castulfrisa_wipe them, and castulfrisa_wipe_stack what the calls left below them. */
@@ -54,8 +54,6 @@ extern "C" {
 #define CASTULFRISA_NOINLINE __attribute__((noinline, unused, no_stack_protector))
 #elif defined(__GNUC__)
 #define CASTULFRISA_NOINLINE __attribute__((noinline, unused))
-#else
-#define CASTULFRISA_NOINLINE inline
 #endif
 
 /* ---- sizes, in bytes */
@@ -74,7 +72,7 @@ extern "C" {
 #define CASTULFRISA_DIGEST_MOST 64     /* the digest of any method */
 #define CASTULFRISA_COOKIE 16          /* a KEXINIT's cookie */
 #define CASTULFRISA_LISTS 10           /* a KEXINIT's lists; this is a count */
-#define CASTULFRISA_NAME_MOST 28       /* the name of any method */
+#define CASTULFRISA_METHOD_NAME_MOST 28 /* the name of any method */
 
 /* What castulfrisa_wipe_stack wipes: no call reaches as far (docs/MEASUREMENTS.md). A host whose loader looks memcpy up at its first call
    defines more. */
@@ -193,7 +191,7 @@ typedef struct {
 typedef struct {
     uint64_t stage, fail;  /* enum castulfrisa_stage; the number that ended a failed exchange, else 0 */
     uint64_t role, method; /* 0 in a start that was refused */
-} castulfrisa_told;
+} castulfrisa_progress;
 
 /* ---- strings and mpints (RFC 4251, section 5) */
 
@@ -254,7 +252,7 @@ CASTULFRISA_MUST_USE uint64_t castulfrisa_next_name(
 
 /* The choice from a client's and a server's KEXINIT: the first of the client's methods that is one of the nine and in the server's
    list, and the first of its host key names that is in the server's.
-   10 to 13, then 19 in any of the ten lists: the client's payload, then the server's; 20, 21. */
+   10 to 13, then 19 in any of the ten lists: the client's payload, then the server's; which of the two, the number does not tell. 20, 21. */
 CASTULFRISA_MUST_USE uint64_t castulfrisa_choose(
     const uint8_t *client, uint64_t client_len, const uint8_t *server, uint64_t server_len, castulfrisa_choice *choice);
 
@@ -300,7 +298,8 @@ CASTULFRISA_MUST_USE uint64_t castulfrisa_read_reply(
            method's X, it is 4, so that a primitive that wrote less than its buffer holds is noticed.
    kem     enum castulfrisa_kem: absent exactly in methods 1 to 6.
    digest  of the KEM's and the classical output, in methods 7 to 9; empty where a primitive failed, and in methods 1 to 6.
-   ks, s   a server's host key blob and own public value; a client's are not looked at.
+           An all-zero X counts as given: method 9 wants its digest.
+   ks, s   a server's host key blob and own public value, also where a primitive failed; a client's are not looked at.
    K goes into the exchange and the room; a server's K_S goes into the room ahead of C, its S behind it. Count: length of the hash
    input, which is the room's beginning: hash that many bytes of it now.
    1; 3; 4: one of the inputs, also any other number for kem; 16, 17: the primitives' failures, the peer's fault. */
@@ -345,12 +344,13 @@ CASTULFRISA_MUST_USE uint64_t castulfrisa_reply_signature(
     const uint8_t *exchange, uint64_t exchange_len, const uint8_t *room, uint64_t room_len,
     const uint8_t *payload, uint64_t payload_len, castulfrisa_part *signature);
 
-/* How far an exchange has come, what ended it, its role and its method. 1: the bytes do not begin as an exchange's, and all of it is 0. */
-CASTULFRISA_MUST_USE uint64_t castulfrisa_state(const uint8_t *exchange, uint64_t exchange_len, castulfrisa_told *told);
+/* How far an exchange has come, what ended it, its role and its method, as the bytes have them. 1: the length, the mark, the stage or the
+   number that ended it is no exchange's, and all of it is 0. Whether the rest fits, the next step judges. */
+CASTULFRISA_MUST_USE uint64_t castulfrisa_state(const uint8_t *exchange, uint64_t exchange_len, castulfrisa_progress *told);
 
 /* ---- for the host */
 
-/* Fills a buffer with zeros. It stands in the archive, out of the host compiler's sight, which can drop no part of it. */
+/* Fills a buffer with zeros. It stands in the archive as machine code, out of the host compiler's sight, which can drop no part of it. */
 void castulfrisa_wipe(uint8_t *buffer, uint64_t buffer_len);
 
 /* The archive's own CASTULFRISA_VERSION. */
@@ -358,13 +358,15 @@ CASTULFRISA_MUST_USE uint64_t castulfrisa_version(void);
 
 /* ---- in the header, so that they cost nothing where they are not used */
 
-/* Overwrites the stack below the caller's frame, as far as any call of the library reaches: K and X stay there in copies that the
-   compiler made. Call it from the function that made the calls. */
+/* Overwrites CASTULFRISA_STACK bytes of stack below the caller's frame, which must be there: K and X stay there in copies that the compiler
+   made. Call it from the function that made the calls. For gcc and clang: another compiler may put it into the caller's own frame. */
+#if defined(__GNUC__)
 static CASTULFRISA_NOINLINE void castulfrisa_wipe_stack(void)
 {
     volatile uint32_t below[CASTULFRISA_STACK / 4]; /* the first counts down through the others: a counter beside them leaves a gap */
     for (below[0] = CASTULFRISA_STACK / 4 - 1; below[0] > 0; below[0]--) below[below[0]] = 0;
 }
+#endif
 
 typedef struct { const uint8_t *at; uint64_t len; } castulfrisa_bytes;
 
@@ -393,11 +395,11 @@ CASTULFRISA_MUST_USE static inline const char *castulfrisa_text(uint64_t number)
     case CASTULFRISA_SHORT_ROOM: return "the room is too short";
     case CASTULFRISA_BAD_INPUT: return "a field, outcome or digest handed in has a wrong length or form";
     case CASTULFRISA_SHORT_OUTPUT: return "an output is too short";
-    case CASTULFRISA_PAYLOAD_SIZE: return "the peer's payload is empty or too long";
-    case CASTULFRISA_MESSAGE: return "the peer's payload is another message";
-    case CASTULFRISA_PAST_END: return "a field of the peer's payload passes its end";
-    case CASTULFRISA_LEFT_OVER: return "the peer's payload has bytes left over";
-    case CASTULFRISA_FIELD_LENGTH: return "a field of the peer's payload has a length that is not allowed";
+    case CASTULFRISA_PAYLOAD_SIZE: return "the payload is empty or too long";
+    case CASTULFRISA_MESSAGE: return "the payload is another message";
+    case CASTULFRISA_PAST_END: return "a field of the payload passes its end";
+    case CASTULFRISA_LEFT_OVER: return "the payload has bytes left over";
+    case CASTULFRISA_FIELD_LENGTH: return "a field of the payload has a length that is not allowed";
     case CASTULFRISA_LEAD_BYTE: return "the peer's point does not begin with 4";
     case CASTULFRISA_CLASSICAL: return "the classical primitive failed, or gave all zeros";
     case CASTULFRISA_KEM: return "the KEM failed";

@@ -51,11 +51,11 @@ FIELD(castulfrisa_reply, signature, 4, 2);
 RUN(castulfrisa_signed, 2);
 FIELD(castulfrisa_signed, reply, 0, 1);
 FIELD(castulfrisa_signed, k, 1, 1);
-RUN(castulfrisa_told, 4);
-FIELD(castulfrisa_told, stage, 0, 1);
-FIELD(castulfrisa_told, fail, 1, 1);
-FIELD(castulfrisa_told, role, 2, 1);
-FIELD(castulfrisa_told, method, 3, 1);
+RUN(castulfrisa_progress, 4);
+FIELD(castulfrisa_progress, stage, 0, 1);
+FIELD(castulfrisa_progress, fail, 1, 1);
+FIELD(castulfrisa_progress, role, 2, 1);
+FIELD(castulfrisa_progress, method, 3, 1);
 
 /* The sizes of buffers are those of what goes into them: a message's number, strings, and the hash input of method 8. */
 #define STRING(body) (4 + (body))

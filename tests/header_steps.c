@@ -204,14 +204,14 @@ static int same(const side *a) { return same_room(a) && memcmp(a->exchange, was.
 
 static int state_is(const side *a, uint64_t stage, uint64_t fail, uint64_t role, uint64_t m)
 {
-    LEND(castulfrisa_told, t);
+    LEND(castulfrisa_progress, t);
     return castulfrisa_state(a->exchange, EX, &t.told) == 0 && KEPT(t) && t.told.stage == stage && t.told.fail == fail
         && t.told.role == role && t.told.method == m;
 }
 
 static int no_state(const side *a, uint64_t len)
 {
-    LEND(castulfrisa_told, t);
+    LEND(castulfrisa_progress, t);
     return castulfrisa_state(a->exchange, len, &t.told) == CASTULFRISA_NOT_DUE && ZERO(t);
 }
 

@@ -115,7 +115,7 @@ static uint64_t larger(uint64_t a, uint64_t c) { return a > c ? a : c; }
 static void methods(void)
 {
     static const uint64_t none[] = {0, 10, 255, 256, 256 + 1, 256 + 9, WIDE, WIDE + 1, UINT64_MAX};
-    uint8_t out[CASTULFRISA_NAME_MOST + 1];
+    uint8_t out[CASTULFRISA_METHOD_NAME_MOST + 1];
     uint64_t m, value = 0, x = 0, digest = 0, name = 0;
     size_t i, len;
     LEND(castulfrisa_sizes, z);
@@ -144,7 +144,7 @@ static void methods(void)
     }
     method = 0;
     is(value == CASTULFRISA_VALUE_MOST && x == CASTULFRISA_X_MOST, "the largest C or S, and X");
-    is(digest == CASTULFRISA_DIGEST_MOST && name == CASTULFRISA_NAME_MOST, "the largest digest and name");
+    is(digest == CASTULFRISA_DIGEST_MOST && name == CASTULFRISA_METHOD_NAME_MOST, "the largest digest and name");
 
     for (i = 0; i < COUNT(none); i++) {
         AGAIN(out);

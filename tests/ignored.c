@@ -13,7 +13,7 @@ void ignore(uint8_t *p, uint64_t n, uint64_t *count, castulfrisa_part *part, cas
     castulfrisa_choice choice;
     castulfrisa_reply reply;
     castulfrisa_signed counts;
-    castulfrisa_told told;
+    castulfrisa_progress told;
 
     castulfrisa_read_string(p, n, parts);
     castulfrisa_write_string(p, n, p, n, count);

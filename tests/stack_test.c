@@ -105,7 +105,7 @@ static uint8_t exchange[EX], room[ROOM], other_exchange[EX], other_room[ROOM];
 static uint8_t payload[CASTULFRISA_REPLY], value[CASTULFRISA_VALUE_MOST], out[CASTULFRISA_REPLY], k[CASTULFRISA_K];
 static uint64_t payload_len, count;
 static castulfrisa_signed counts;
-static castulfrisa_told told;
+static castulfrisa_progress told;
 
 static NOINLINE void secret(int call)
 {

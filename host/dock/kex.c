@@ -150,7 +150,7 @@ static bool exchange_newkeys(struct kex *k)
 
 static bool print_results(const struct kex *k, const char *print, enum known known)
 {
-    uint8_t name[CASTULFRISA_NAME_MOST];
+    uint8_t name[CASTULFRISA_METHOD_NAME_MOST];
     uint64_t name_len;
     if (castulfrisa_method_name(k->method, name, sizeof name, &name_len) != CASTULFRISA_OK) return trouble("a method without a name");
     printf("method %u %.*s\n", (unsigned)k->method, (int)name_len, (const char *)name);

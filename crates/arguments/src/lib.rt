@@ -1,5 +1,5 @@
-// Numbers as a host hands them in, each 64 bits wide, as the values that the steps take. They are judged as they came and never cut: a
-// number that is none of those that a step knows is refused as such.
+// Numbers as a host hands them in, each 64 bits wide, as the values that the steps take. They are judged as they came and never cut: 257 is
+// no method, 2 is no yes.
 use exchange::Classical;
 use exchange::Kem;
 use methods::KForm;

@@ -3,8 +3,7 @@
 use names::Cursor;
 ghost use mathlib.Core.Path.{_≡_};
 ghost use mathlib.Core.List.{[], _∷_, _++_};
-ghost use mathlib.Core.Bool.{cond};
-ghost use lib.ListN.{length, getD};
+ghost use lib.ListN.{length};
 ghost use Rattle.limits.specs.Limits.{libraryVersion};
 ghost use Rattle.buffers.specs.Bytes.{zeros};
 ghost use Rattle.wire.specs.Strings.{string, readString};
@@ -22,7 +21,7 @@ ghost use Rattle.exchange.specs.Steps.{ownC, init, reply, secret as secretStep,
 ghost use Rattle.arguments.specs.Arguments.{isYes, classicalOf, kemOf};
 ghost use Rattle.stored.specs.Stored.{stageNumber, failNumber, decoded, byFit};
 ghost use Rattle.lent.specs.Lent.{placeOf, left, lentStart, lentCall};
-ghost use Rattle.boundary.specs.Told.{cursorOf, cursorNumbers, openedNumbers, choiceNumbers};
+ghost use Rattle.boundary.specs.Answers.{cursorOf, cursorNumbers, openedNumbers, choiceNumbers};
 
 // ---- the codecs
 

@@ -7,7 +7,7 @@ use denote.Ref.{now}
 use Rattle.limits.specs.Limits.{roomLeast}
 use Rattle.buffers.specs.Bytes.{onto}
 use Rattle.exchange.specs.Steps.{Call, secret, sign, verdict, number, countOf, secondOf, answered, replyOf, started, startedRoom}
-use Rattle.exchange.specs.Book.{Book, lastBook}
+use Rattle.exchange.specs.Book.{Book, opened, lastBook}
 use Rattle.exchange.specs.Demand.{lastExchange}
 use Rattle.exchange.specs.declared.Step.{Step}
 use Rattle.exchange.specs.declared.Exchange.{Exchange}
@@ -16,7 +16,7 @@ use Rattle.exchange.proofs.Simulation.{Sim}
 use Rattle.exchange.proofs.HandedLaws.{secret-handed, sign-handed, verdict-handed}
 use Rattle.arguments.specs.Arguments.{isYes, classicalOf, kemOf}
 use Rattle.stored.specs.Stored.{encoded, decoded}
-use Rattle.lent.specs.Lent.{tells}
+use Rattle.lent.specs.Lent.{tells, lentCall}
 use Rattle.demand.proofs.HandsOut.{followed-there}
 use Rattle.demand_host.specs.Told.{Told}
 use Rattle.demand_host.specs.HandedOut.{SecretHandsOut, SignHandsOut, VerdictHandsOut, HandedOut}
@@ -30,6 +30,11 @@ record Follows (b₀ : Book) (room₀ : List ℕ) (calls : List Call) (ex room :
   storable : Storable (decoded ex)
   least : roomLeast ≤ length room₀
   sim : Sim room₀ (lastBook (length room₀) b₀ calls) (decoded ex) room
+  method-is : decoded ex .method ≡ b₀ .method
+
+opened-method : (role m : ℕ) (vc vs ic is : List ℕ) (b : Book) → b ≡ opened role m vc vs ic is → m ≡ b .method
+unfolding opened
+opened-method role m vc vs ic is b e = sym (ap (λ (y : Book). y .method) e)
 
 follows : {b₀ : Book} {room₀ : List ℕ} {calls : List Call} {numbers ex room : List ℕ} → Told b₀ room₀ calls numbers ex room → Follows b₀ room₀ calls ex room
 follows {b₀} {room₀} {calls} {numbers} {ex} {room} h =
@@ -43,6 +48,7 @@ follows {b₀} {room₀} {calls} {numbers} {ex} {room} h =
       storable = subst Storable (sym d) (s .storable);
       least = f .0;
       sim = f .1;
+      method-is = ap (λ (y : Exchange). y .method) d ∙ s .method-is ∙ opened-method (k .role) (k .method) (k .vc) (k .vs) (k .ic) (k .is) b₀ (k .book);
     }
 
 -- an accepted call's counts
@@ -74,12 +80,13 @@ secret-hands-out b₀ room₀ calls numbers κs a r s d t z =
     let room = now (a .1 .0) in
     let cl = classicalOf (a .1 .1 .0) (a .1 .1 .1 .0) in
     let x = now (a .1 .1 .1 .1 .0) in
-    let kem = kemOf (e .method) (a .1 .1 .1 .1 .1 .0) in
+    let kem = kemOf (b₀ .method) (a .1 .1 .1 .1 .1 .0) in
     let dg = now (a .1 .1 .1 .1 .1 .1 .0) in
     let ks = now (a .1 .1 .1 .1 .1 .1 .1 .0) in
     let v = now (a .1 .1 .1 .1 .1 .1 .1 .1 .0) in
     let q = secret cl x kem dg ks v in
-    let l = as-step (now (a .0)) e room q _ r _ _ _ _ (f .stored) (f .storable) t in
+    let w = ap (λ (m : ℕ). lentCall (now (a .0)) room (secret cl x (kemOf m (a .1 .1 .1 .1 .1 .0)) dg ks v) []) (f .method-is) in
+    let l = as-step (now (a .0)) e room q _ r _ _ _ _ (f .stored) (f .storable) (t ∙ w) in
     let n = sym (l .number-is) ∙ z in
     let c = ap first (l .told-is) ∙ count-none e room q n in
     let h = secret-handed room₀ b e room (f .least) (f .sim) cl x kem dg ks v n in

@@ -1,69 +1,76 @@
 -- Demand 3 holds where the host stands. Assumes nothing.
 use Prim.Native.Nat.{ℕ}
 use mathlib.Core.Path.{_≡_, refl, sym, ap, ap₂, _∙_}
-use mathlib.Core.List.{List, _∷_}
+use mathlib.Core.List.{List, [], _∷_}
 use lib.ListN.{length}
 use denote.Ref.{now}
 use Rattle.exchange.specs.Causes.{startCause}
 use Rattle.exchange.specs.Steps.{Call, ownC, init, reply, secret, sign, verdict, number, exchangeAfter, roomAfter, started, startedRoom}
-use Rattle.exchange.specs.Book.{Book, opened}
+use Rattle.exchange.specs.Book.{Book, opened, lastBook}
+use Rattle.exchange.specs.ExchangeTold.{exchangeTold}
 use Rattle.exchange.specs.Demand.{numbersOf, lastExchange, lastRoom}
 use Rattle.exchange.specs.declared.Exchange.{Exchange}
 use Rattle.exchange.proofs.Simulation.{start-zero}
+use Rattle.exchange.proofs.TheExchange.{told-exchange}
 use Rattle.arguments.specs.Arguments.{isYes, classicalOf, kemOf}
 use Rattle.stored.specs.Stored.{encoded, fits, decoded}
+use Rattle.lent.specs.Lent.{lentCall}
 use Rattle.stored.proofs.RoundTrip.{encoded-fits}
 use Rattle.demand.proofs.Holds.{AsDefined, held-there}
 use Rattle.demand_host.specs.History.{History, no-call, own-c, read-init, read-reply, take-secret, give-sign, give-verdict}
 use Rattle.demand_host.specs.Told.{Told, start-then}
 use Rattle.demand_host.specs.Demand3.{HeldAtHost, Demand3}
 use Rattle.demand_host.proofs.Kept.{Storable, step-storable, start-storable}
-use Rattle.demand_host.proofs.Links.{AsStep, as-step, as-start, found}
+use Rattle.demand_host.proofs.Links.{as-step, as-start, found, method-kept, start-method, method-there}
 
 -- a history from the bytes of x is the run of the definitions from x, and its bytes are those of the exchange that the run reaches
-pub record HostRun (x : Exchange) (room : List ℕ) (qs : List Call) (ns ex′ room′ : List ℕ) : Type 0 where
+pub record HostRun (m : ℕ) (x : Exchange) (room : List ℕ) (qs : List Call) (ns ex′ room′ : List ℕ) : Type 0 where
   pub numbers : ns ≡ numbersOf x room qs
   pub exchange : ex′ ≡ encoded (lastExchange x room qs)
   pub storable : Storable (lastExchange x room qs)
   pub rooms : room′ ≡ lastRoom x room qs
+  pub method-is : lastExchange x room qs .method ≡ m
 
 -- a call, and then the rest
-one-more : {x : Exchange} {room : List ℕ} {q : Call} {n : ℕ} {room₁ : List ℕ} {qs : List Call} {ns ex′ room′ : List ℕ}
-    → n ≡ number x room q → room₁ ≡ roomAfter x room q → HostRun (exchangeAfter x room q) room₁ qs ns ex′ room′ → HostRun x room (q ∷ qs) (n ∷ ns) ex′ room′
-one-more {x} {room} {q} n u s = record {
+one-more : {m : ℕ} {x : Exchange} {room : List ℕ} {q : Call} {n : ℕ} {room₁ : List ℕ} {qs : List Call} {ns ex′ room′ : List ℕ}
+    → n ≡ number x room q → room₁ ≡ roomAfter x room q → HostRun m (exchangeAfter x room q) room₁ qs ns ex′ room′ → HostRun m x room (q ∷ qs) (n ∷ ns) ex′ room′
+one-more {m} {x} {room} {q} n u s = record {
   numbers = ap₂ _∷_ n (rw u at (s .numbers));
   exchange = rw u at (s .exchange);
   storable = rw u at (s .storable);
   rooms = rw u at (s .rooms);
+  method-is = rw u at (s .method-is);
 }
 
-pub host-run : {ex room : List ℕ} {qs : List Call} {ns ex′ room′ : List ℕ} → History ex room qs ns ex′ room′ → (x : Exchange) → ex ≡ encoded x → Storable x
-    → HostRun x room qs ns ex′ room′
-host-run no-call x e k = record { numbers = refl; exchange = e; storable = k; rooms = refl }
-host-run (own-c κs a r s t h) x e k =
+pub host-run : {m : ℕ} {ex room : List ℕ} {qs : List Call} {ns ex′ room′ : List ℕ} → History m ex room qs ns ex′ room′
+    → (x : Exchange) → ex ≡ encoded x → Storable x → x .method ≡ m → HostRun m x room qs ns ex′ room′
+host-run no-call x e k j = record { numbers = refl; exchange = e; storable = k; rooms = refl; method-is = j }
+host-run (own-c κs a r s t h) x e k j =
     let q = ownC (now (a .1 .1 .0)) (length (now (a .1 .1 .1 .0))) in
     let l = as-step (now (a .0)) x (now (a .1 .0)) q _ r _ _ _ _ e k t in
-    one-more (l .number-is) (l .room-is) (host-run h (exchangeAfter x (now (a .1 .0)) q) (l .exchange-is) (step-storable x (now (a .1 .0)) q k))
-host-run (read-init κs a r s t h) x e k =
+    one-more (l .number-is) (l .room-is) (host-run h (exchangeAfter x (now (a .1 .0)) q) (l .exchange-is) (step-storable x (now (a .1 .0)) q k) (method-kept x (now (a .1 .0)) q ∙ j))
+host-run (read-init κs a r s t h) x e k j =
     let q = init (now (a .1 .1 .0)) in
     let l = as-step (now (a .0)) x (now (a .1 .0)) q _ r _ _ _ _ e k t in
-    one-more (l .number-is) (l .room-is) (host-run h (exchangeAfter x (now (a .1 .0)) q) (l .exchange-is) (step-storable x (now (a .1 .0)) q k))
-host-run (read-reply κs a r s t h) x e k =
+    one-more (l .number-is) (l .room-is) (host-run h (exchangeAfter x (now (a .1 .0)) q) (l .exchange-is) (step-storable x (now (a .1 .0)) q k) (method-kept x (now (a .1 .0)) q ∙ j))
+host-run (read-reply κs a r s t h) x e k j =
     let q = reply (now (a .1 .1 .0)) in
     let l = as-step (now (a .0)) x (now (a .1 .0)) q _ r _ _ _ _ e k t in
-    one-more (l .number-is) (l .room-is) (host-run h (exchangeAfter x (now (a .1 .0)) q) (l .exchange-is) (step-storable x (now (a .1 .0)) q k))
-host-run (take-secret κs a r s t h) x e k =
-    let q = secret (classicalOf (a .1 .1 .0) (a .1 .1 .1 .0)) (now (a .1 .1 .1 .1 .0)) (kemOf (decoded (now (a .0)) .method) (a .1 .1 .1 .1 .1 .0)) (now (a .1 .1 .1 .1 .1 .1 .0)) (now (a .1 .1 .1 .1 .1 .1 .1 .0)) (now (a .1 .1 .1 .1 .1 .1 .1 .1 .0)) in
-    let l = as-step (now (a .0)) x (now (a .1 .0)) q _ r _ _ _ _ e k t in
-    one-more (l .number-is) (l .room-is) (host-run h (exchangeAfter x (now (a .1 .0)) q) (l .exchange-is) (step-storable x (now (a .1 .0)) q k))
-host-run (give-sign κs a r s t h) x e k =
+    one-more (l .number-is) (l .room-is) (host-run h (exchangeAfter x (now (a .1 .0)) q) (l .exchange-is) (step-storable x (now (a .1 .0)) q k) (method-kept x (now (a .1 .0)) q ∙ j))
+host-run {m} (take-secret κs a r s t h) x e k j =
+    let told : ℕ → Call = λ (n : ℕ). secret (classicalOf (a .1 .1 .0) (a .1 .1 .1 .0)) (now (a .1 .1 .1 .1 .0)) (kemOf n (a .1 .1 .1 .1 .1 .0)) (now (a .1 .1 .1 .1 .1 .1 .0)) (now (a .1 .1 .1 .1 .1 .1 .1 .0)) (now (a .1 .1 .1 .1 .1 .1 .1 .1 .0)) in
+    let q = told m in
+    let w = ap (λ (n : ℕ). lentCall (now (a .0)) (now (a .1 .0)) (told n) []) (method-there (now (a .0)) x m e k j) in
+    let l = as-step (now (a .0)) x (now (a .1 .0)) q _ r _ _ _ _ e k (t ∙ w) in
+    one-more (l .number-is) (l .room-is) (host-run h (exchangeAfter x (now (a .1 .0)) q) (l .exchange-is) (step-storable x (now (a .1 .0)) q k) (method-kept x (now (a .1 .0)) q ∙ j))
+host-run (give-sign κs a r s t h) x e k j =
     let q = sign (now (a .1 .1 .0)) (length (now (a .1 .1 .1 .0))) (length (now (a .1 .1 .1 .1 .0))) in
     let l = as-step (now (a .0)) x (now (a .1 .0)) q _ r _ _ _ _ e k t in
-    one-more (l .number-is) (l .room-is) (host-run h (exchangeAfter x (now (a .1 .0)) q) (l .exchange-is) (step-storable x (now (a .1 .0)) q k))
-host-run (give-verdict κs a r s t h) x e k =
+    one-more (l .number-is) (l .room-is) (host-run h (exchangeAfter x (now (a .1 .0)) q) (l .exchange-is) (step-storable x (now (a .1 .0)) q k) (method-kept x (now (a .1 .0)) q ∙ j))
+host-run (give-verdict κs a r s t h) x e k j =
     let q = verdict (isYes (a .1 .1 .0)) (isYes (a .1 .1 .1 .0)) (length (now (a .1 .1 .1 .1 .0))) in
     let l = as-step (now (a .0)) x (now (a .1 .0)) q _ r _ _ _ _ e k t in
-    one-more (l .number-is) (l .room-is) (host-run h (exchangeAfter x (now (a .1 .0)) q) (l .exchange-is) (step-storable x (now (a .1 .0)) q k))
+    one-more (l .number-is) (l .room-is) (host-run h (exchangeAfter x (now (a .1 .0)) q) (l .exchange-is) (step-storable x (now (a .1 .0)) q k) (method-kept x (now (a .1 .0)) q ∙ j))
 
 -- an accepted start had no cause against it, and bytes and room are those that the definitions reach from it
 pub record Run (b₀ : Book) (room₀ : List ℕ) (calls : List Call) (numbers ex room : List ℕ) : Type 0 where
@@ -75,7 +82,7 @@ pub record Run (b₀ : Book) (room₀ : List ℕ) (calls : List Call) (numbers e
   pub is : List ℕ
   pub book : b₀ ≡ opened role method vc vs ic is
   pub cause : startCause role method vc vs ic is (length room₀) ≡ 0
-  pub run : HostRun (started role method vc vs ic is (length room₀) .exchange) (startedRoom role method vc vs ic is room₀) calls numbers ex room
+  pub run : HostRun method (started role method vc vs ic is (length room₀) .exchange) (startedRoom role method vc vs ic is room₀) calls numbers ex room
 
 pub runs : {b₀ : Book} {room₀ : List ℕ} {calls : List Call} {numbers ex room : List ℕ} → Told b₀ room₀ calls numbers ex room → Run b₀ room₀ calls numbers ex room
 runs (start-then κs a r s t z h) =
@@ -96,12 +103,12 @@ runs (start-then κs a r s t z h) =
       is = is;
       book = refl;
       cause = start-zero role m vc vs ic is (length room) (g .0);
-      run = rw (g .2) at (host-run h (started role m vc vs ic is (length room) .exchange) (g .1) (start-storable role m vc vs ic is (length room)));
+      run = rw (g .2) at (host-run h (started role m vc vs ic is (length room) .exchange) (g .1) (start-storable role m vc vs ic is (length room)) (start-method role m vc vs ic is (length room) (start-zero role m vc vs ic is (length room) (g .0))));
     }
 
 -- the exchange in the bytes is the one that the run reaches
-pub as-defined : {x : Exchange} {room : List ℕ} {qs : List Call} {ns ex′ room′ : List ℕ} → HostRun x room qs ns ex′ room′ → AsDefined x room qs ns (decoded ex′) room′
-as-defined {x} {room} {qs} s = record {
+pub as-defined : {m : ℕ} {x : Exchange} {room : List ℕ} {qs : List Call} {ns ex′ room′ : List ℕ} → HostRun m x room qs ns ex′ room′ → AsDefined x room qs ns (decoded ex′) room′
+as-defined {m} {x} {room} {qs} s = record {
   numbers = s .numbers;
   exchange = ap decoded (s .exchange) ∙ found (lastExchange x room qs) (s .storable);
   rooms = s .rooms;
@@ -111,9 +118,11 @@ pub demand3 : Demand3
 demand3 b₀ room₀ calls numbers ex room h =
     let k = runs h in
     let s = k .run in
-    let x = lastExchange (started (k .role) (k .method) (k .vc) (k .vs) (k .ic) (k .is) (length room₀) .exchange) (startedRoom (k .role) (k .method) (k .vc) (k .vs) (k .ic) (k .is) room₀) calls in
+    let x₀ = started (k .role) (k .method) (k .vc) (k .vs) (k .ic) (k .is) (length room₀) .exchange in
+    let o = startedRoom (k .role) (k .method) (k .vc) (k .vs) (k .ic) (k .is) room₀ in
+    let t = told-exchange (k .role) (k .method) (k .vc) (k .vs) (k .ic) (k .is) room₀ (k .cause) calls in
     record {
-      fitting = ap fits (s .exchange) ∙ encoded-fits x (s .storable .k-size);
-      stored = ap encoded (ap decoded (s .exchange) ∙ found x (s .storable)) ∙ sym (s .exchange);
       held = held-there (k .role) (k .method) (k .vc) (k .vs) (k .ic) (k .is) room₀ b₀ calls numbers (decoded ex) room (k .book) (k .cause) (as-defined s);
+      bytes-are = s .exchange ∙ ap encoded t ∙ (λ i. encoded (exchangeTold (lastBook (length room₀) (sym (k .book) i) calls) (sym (s .numbers) i)));
+      fitting = ap fits (s .exchange) ∙ encoded-fits (lastExchange x₀ o calls) (s .storable .k-size);
     }

@@ -1,17 +1,16 @@
 -- An exchange that the lent bytes hold stays one through every step, so that the next call finds what the last one answered. Assumes nothing.
-use Prim.Native.Nat.{ℕ, _+_, _≤_, _<_}
+use Prim.Native.Nat.{ℕ, _<_}
 use mathlib.Core.Path.{_≡_, refl, sym, ap, _∙_}
 use mathlib.Core.List.{List}
 use mathlib.Core.Bool.{Bool, true, false, cond}
 use native.Mathlib.Omega.{arith}
-use lib.ListN.{length, length-drop, length-replicate}
+use lib.ListN.{length, length-drop}
 use lib.Dec.{eqb}
 use borrow.Author.Tests.{eqb-true}
-use Rattle.limits.specs.Limits.{versionMost, kexinitMost, blobMost, kSize, server, roomLeast}
+use Rattle.limits.specs.Limits.{versionMost, kexinitMost, blobMost, kSize, server}
 use Rattle.limits.proofs.RangeLaws.{within-most}
 use Rattle.buffers.specs.Bytes.{Bytes, zeros}
 use Rattle.buffers.proofs.ByteLaws.{length-onto}
-use Rattle.wire.specs.Causes.{causeIf, causeUnless}
 use Rattle.wire.proofs.CauseLaws.{unless-fails}
 use Rattle.methods.specs.Rows.{rowOf}
 use Rattle.methods.proofs.FormLaws.{length-most}
@@ -89,7 +88,7 @@ module _ (e : Exchange) (o : methodOk (e .method) ≡ true) where
 none-short : Short noLengths
 none-short = record { vc = omega arith; vs = omega arith; ic = omega arith; is = omega arith; ks = omega arith; c = omega arith; s = omega arith }
 
-ended-storable : (n role m : ℕ) → Storable (ended n role m)
+pub ended-storable : (n role m : ℕ) → Storable (ended n role m)
 unfolding ended
 ended-storable n role m = record { short = none-short; k-size = refl }
 

@@ -7,7 +7,10 @@ use native.Mathlib.Omega.{arith}
 use lib.ListN.{length}
 use lib.Dec.{eqb}
 use Rattle.limits.specs.Limits.{exchangeSize}
-use Rattle.exchange.specs.Steps.{Call, number, exchangeAfter, roomAfter, started, startedRoom}
+use Rattle.exchange.specs.Causes.{startCause}
+use Rattle.exchange.specs.Record.{ended}
+use Rattle.exchange.specs.Numbers.{Kind, accepted, refused, fault, kind, byKind}
+use Rattle.exchange.specs.Steps.{Call, ownC, init, reply, secret, sign, verdict, number, taken, exchangeAfter, roomAfter, started, startedRoom}
 use Rattle.exchange.specs.declared.Exchange.{Exchange}
 use Rattle.stored.specs.Stored.{encoded, decoded, bySize}
 use Rattle.stored.proofs.StoredLaws.{size-taken}
@@ -71,3 +74,31 @@ start-called b role m vc vs ic is room h =
 -- and its bytes are found again
 pub found : (x : Exchange) → Storable x → decoded (encoded x) ≡ x
 found x h = decoded-encoded x (h .short)
+
+-- a step keeps the method
+taken-method : (x : Exchange) (q : Call) → taken x q .method ≡ x .method
+unfolding taken
+taken-method x (ownC c out) = refl
+taken-method x (init p) = refl
+taken-method x (reply p) = refl
+taken-method x (secret cl v kem d ks s) = refl
+taken-method x (sign g out kOut) = refl
+taken-method x (verdict a b kOut) = refl
+
+pub method-kept : (x : Exchange) (room : List ℕ) (q : Call) → exchangeAfter x room q .method ≡ x .method
+unfolding exchangeAfter ended
+method-kept x room q = by-kind (kind (number x room q))
+  where
+    by-kind : (k : Kind) → byKind k (taken x q) x (ended (number x room q) (x .role) (x .method)) .method ≡ x .method
+    by-kind accepted = taken-method x q
+    by-kind refused = refl
+    by-kind fault = refl
+
+-- an accepted start has it from its argument
+pub start-method : (role m : ℕ) (vc vs ic is : List ℕ) (room : ℕ) → startCause role m vc vs ic is room ≡ 0 → started role m vc vs ic is room .exchange .method ≡ m
+unfolding started
+start-method role m vc vs ic is room z = rw z
+
+-- and the bytes of an exchange have its method
+pub method-there : (b : List ℕ) (x : Exchange) (m : ℕ) → b ≡ encoded x → Storable x → x .method ≡ m → decoded b .method ≡ m
+method-there b x m e h k = ap (λ (y : List ℕ). decoded y .method) e ∙ ap (λ (y : Exchange). y .method) (found x h) ∙ k

@@ -1,7 +1,7 @@
 -- Demand 3 where the host stands is not about nothing: every list of calls has a history, and for each role and method one ends
 -- complete. Assumes nothing.
 use Prim.Native.Nat.{ℕ, _≤_}
-use mathlib.Core.Path.{_≡_, refl, subst, ap, _∙_}
+use mathlib.Core.Path.{_≡_, refl, sym, subst, ap, _∙_}
 use mathlib.Core.List.{List, [], _∷_}
 use mathlib.Core.Bool.{Bool, true, false, cond}
 use lib.ListN.{length, length-replicate}
@@ -23,18 +23,18 @@ use Rattle.exchange.proofs.Sample.{version, payload, sampleCalls}
 use Rattle.exchange.proofs.Simulation.{sign-room}
 use Rattle.exchange.proofs.Completes.{completes}
 use Rattle.arguments.specs.Arguments.{isYes, classicalOf, kemOf}
-use Rattle.stored.specs.Stored.{encoded, decoded}
+use Rattle.stored.specs.Stored.{encoded}
 use Rattle.lent.specs.Lent.{left, tells, stepLeft, lentCall, startLeft}
 use Rattle.demand_host.specs.History.{History, no-call, own-c, read-init, read-reply, take-secret, give-sign, give-verdict}
 use Rattle.demand_host.specs.Told.{Told, start-then}
 use Rattle.demand_host.specs.Completed.{Completed}
 use Rattle.demand_host.proofs.Kept.{Storable, step-storable, start-storable}
-use Rattle.demand_host.proofs.Links.{as-called, start-called, found}
+use Rattle.demand_host.proofs.Links.{as-called, start-called, found, method-kept, start-method, method-there}
 use Rattle.demand_host.proofs.Holds.{host-run}
 
 -- a run of the definitions from an exchange is a history from its bytes
-abbrev pub Reaches : Exchange → List ℕ → List Call → Type 0
-Reaches x room qs = History (encoded x) room qs (numbersOf x room qs) (encoded (lastExchange x room qs)) (lastRoom x room qs)
+abbrev pub Reaches : ℕ → Exchange → List ℕ → List Call → Type 0
+Reaches m x room qs = History m (encoded x) room qs (numbersOf x room qs) (encoded (lastExchange x room qs)) (lastRoom x room qs)
 
 length-zeros : (n : ℕ) → length (zeros n) ≡ n
 length-zeros n = length-replicate n 0
@@ -87,8 +87,8 @@ module _ (l : Lft) (g : GName) where
   one n = record { ptr = (0, 0); name = g; now = n }
 
   -- one call with what it is lent in hand, and then the rest of the run
-  module _ (x : Exchange) (h : Storable x) (room : List ℕ) (qs : List Call) where
-    own-c-then : (c out : List ℕ) → let q = ownC c (length out) in Reaches (exchangeAfter x room q) (roomAfter x room q) qs → Reaches x room (q ∷ qs)
+  module _ (m : ℕ) (x : Exchange) (h : Storable x) (room : List ℕ) (qs : List Call) where
+    own-c-then : (c out : List ℕ) → let q = ownC c (length out) in Reaches m (exchangeAfter x room q) (roomAfter x room q) qs → Reaches m x room (q ∷ qs)
     unfolding lent one tells stepLeft
     own-c-then c out k =
         let q : Call = ownC c (length out) in
@@ -96,7 +96,7 @@ module _ (l : Lft) (g : GName) where
         (lent (encoded (exchangeAfter x room q)), (lent (roomAfter x room q), (lent c, (lent (outputAfter (number x room q) out (initBytes c)), (one (answered x room q .count), tt)))))
         (as-called x room q (out ∷ []) h) k
 
-    init-then : (p : List ℕ) → Reaches (exchangeAfter x room (init p)) (roomAfter x room (init p)) qs → Reaches x room (init p ∷ qs)
+    init-then : (p : List ℕ) → Reaches m (exchangeAfter x room (init p)) (roomAfter x room (init p)) qs → Reaches m x room (init p ∷ qs)
     unfolding lent stepLeft
     init-then p k =
         let q : Call = init p in
@@ -104,7 +104,7 @@ module _ (l : Lft) (g : GName) where
         (lent (encoded (exchangeAfter x room q)), (lent (roomAfter x room q), (lent p, (lent (tells x room q), tt))))
         (as-called x room q [] h) k
 
-    reply-then : (p : List ℕ) → Reaches (exchangeAfter x room (reply p)) (roomAfter x room (reply p)) qs → Reaches x room (reply p ∷ qs)
+    reply-then : (p : List ℕ) → Reaches m (exchangeAfter x room (reply p)) (roomAfter x room (reply p)) qs → Reaches m x room (reply p ∷ qs)
     unfolding lent stepLeft
     reply-then p k =
         let q : Call = reply p in
@@ -112,17 +112,19 @@ module _ (l : Lft) (g : GName) where
         (lent (encoded (exchangeAfter x room q)), (lent (roomAfter x room q), (lent p, (lent (tells x room q), tt))))
         (as-called x room q [] h) k
 
-    secret-then : (gv n : ℕ) (v : List ℕ) (km : ℕ) (d ks s : List ℕ) → let q = secret (classicalOf gv n) v (kemOf (decoded (encoded x) .method) km) d ks s in
-        Reaches (exchangeAfter x room q) (roomAfter x room q) qs → Reaches x room (q ∷ qs)
+    secret-then : x .method ≡ m → (gv n : ℕ) (v : List ℕ) (km : ℕ) (d ks s : List ℕ) → let q = secret (classicalOf gv n) v (kemOf m km) d ks s in
+        Reaches m (exchangeAfter x room q) (roomAfter x room q) qs → Reaches m x room (q ∷ qs)
     unfolding lent one tells stepLeft
-    secret-then gv n v km d ks s k =
-        let q : Call = secret (classicalOf gv n) v (kemOf (decoded (encoded x) .method) km) d ks s in
+    secret-then j gv n v km d ks s k =
+        let told : ℕ → Call = λ (i : ℕ). secret (classicalOf gv n) v (kemOf i km) d ks s in
+        let q = told m in
+        let w = ap (λ (i : ℕ). lentCall (encoded x) room (told i) []) (sym (method-there (encoded x) x m refl h j)) in
         take-secret (l, (l, (l, (l, (l, (l, (l, tt)))))))
         (lent (encoded x), (lent room, (gv, (n, (lent v, (km, (lent d, (lent ks, (lent s, (one 0, tt)))))))))) (number x room q)
         (lent (encoded (exchangeAfter x room q)), (lent (roomAfter x room q), (gv, (n, (lent v, (km, (lent d, (lent ks, (lent s, (one (answered x room q .count), tt))))))))))
-        (as-called x room q [] h) k
+        (as-called x room q [] h ∙ w) k
 
-    sign-then : (sg out kOut : List ℕ) → let q = sign sg (length out) (length kOut) in Reaches (exchangeAfter x room q) (roomAfter x room q) qs → Reaches x room (q ∷ qs)
+    sign-then : (sg out kOut : List ℕ) → let q = sign sg (length out) (length kOut) in Reaches m (exchangeAfter x room q) (roomAfter x room q) qs → Reaches m x room (q ∷ qs)
     unfolding lent tells stepLeft
     sign-then sg out kOut k =
         let q : Call = sign sg (length out) (length kOut) in
@@ -131,11 +133,11 @@ module _ (l : Lft) (g : GName) where
         (lent (encoded (exchangeAfter x room q)), (lent room, (lent sg, (lent (outputAfter (number x room q) out (replyOf x room sg)), (lent (outputAfter (number x room q) kOut (x .k)), (lent (tells x room q), tt))))))
         (subst (λ (room₁ : List ℕ). left (number x room q) (tells x room q) (encoded (exchangeAfter x room q)) room₁ (outputAfter (number x room q) out (replyOf x room sg) ∷ outputAfter (number x room q) kOut (x .k) ∷ []) ≡ lentCall (encoded x) room q (out ∷ kOut ∷ [])) r (as-called x room q (out ∷ kOut ∷ []) h))
         (subst
-        (λ (room₁ : List ℕ). History (encoded (exchangeAfter x room q)) room₁ qs (numbersOf (exchangeAfter x room q) (roomAfter x room q) qs)
+        (λ (room₁ : List ℕ). History m (encoded (exchangeAfter x room q)) room₁ qs (numbersOf (exchangeAfter x room q) (roomAfter x room q) qs)
         (encoded (lastExchange (exchangeAfter x room q) (roomAfter x room q) qs)) (lastRoom (exchangeAfter x room q) (roomAfter x room q) qs))
         r k)
 
-    verdict-then : (u v : ℕ) (kOut : List ℕ) → let q = verdict (isYes u) (isYes v) (length kOut) in Reaches (exchangeAfter x room q) (roomAfter x room q) qs → Reaches x room (q ∷ qs)
+    verdict-then : (u v : ℕ) (kOut : List ℕ) → let q = verdict (isYes u) (isYes v) (length kOut) in Reaches m (exchangeAfter x room q) (roomAfter x room q) qs → Reaches m x room (q ∷ qs)
     unfolding lent one tells stepLeft
     verdict-then u v kOut k =
         let q : Call = verdict (isYes u) (isYes v) (length kOut) in
@@ -144,26 +146,25 @@ module _ (l : Lft) (g : GName) where
         (as-called x room q (kOut ∷ []) h) k
 
   -- outputs of zeros have every length
-  pub reached : (x : Exchange) → Storable x → (room : List ℕ) (qs : List Call) → Reaches x room qs
-  reached x h room [] = no-call
-  reached x h room (ownC c out ∷ qs) =
-      subst (λ (n : ℕ). Reaches x room (ownC c n ∷ qs)) (length-zeros out) (own-c-then x h room qs c (zeros out) (reached _ (step-storable x room _ h) _ qs))
-  reached x h room (init p ∷ qs) = init-then x h room qs p (reached _ (step-storable x room _ h) _ qs)
-  reached x h room (reply p ∷ qs) = reply-then x h room qs p (reached _ (step-storable x room _ h) _ qs)
-  reached x h room (secret cl v kem d ks s ∷ qs) =
-      let m = decoded (encoded x) .method in
-      subst (λ (c : Classical). Reaches x room (secret c v kem d ks s ∷ qs)) (classical-back cl)
-      (subst (λ (k : Kem). Reaches x room (secret (classicalOf (given cl) (stated cl)) v k d ks s ∷ qs)) (kem-back m kem)
-      (secret-then x h room qs (given cl) (stated cl) v (kemNumber kem) d ks s (reached _ (step-storable x room _ h) _ qs)))
-  reached x h room (sign sg out kOut ∷ qs) =
-      subst (λ (n : ℕ). Reaches x room (sign sg n kOut ∷ qs)) (length-zeros out)
-      (subst (λ (n : ℕ). Reaches x room (sign sg (length (zeros out)) n ∷ qs)) (length-zeros kOut)
-      (sign-then x h room qs sg (zeros out) (zeros kOut) (reached _ (step-storable x room _ h) _ qs)))
-  reached x h room (verdict a b kOut ∷ qs) =
-      subst (λ (t : Bool). Reaches x room (verdict t b kOut ∷ qs)) (yes-back a)
-      (subst (λ (t : Bool). Reaches x room (verdict (isYes (yesNo a)) t kOut ∷ qs)) (yes-back b)
-      (subst (λ (n : ℕ). Reaches x room (verdict (isYes (yesNo a)) (isYes (yesNo b)) n ∷ qs)) (length-zeros kOut)
-      (verdict-then x h room qs (yesNo a) (yesNo b) (zeros kOut) (reached _ (step-storable x room _ h) _ qs))))
+  pub reached : (m : ℕ) (x : Exchange) → Storable x → x .method ≡ m → (room : List ℕ) (qs : List Call) → Reaches m x room qs
+  reached m x h j room [] = no-call
+  reached m x h j room (ownC c out ∷ qs) =
+      subst (λ (n : ℕ). Reaches m x room (ownC c n ∷ qs)) (length-zeros out) (own-c-then m x h room qs c (zeros out) (reached m _ (step-storable x room _ h) (method-kept x room _ ∙ j) _ qs))
+  reached m x h j room (init p ∷ qs) = init-then m x h room qs p (reached m _ (step-storable x room _ h) (method-kept x room _ ∙ j) _ qs)
+  reached m x h j room (reply p ∷ qs) = reply-then m x h room qs p (reached m _ (step-storable x room _ h) (method-kept x room _ ∙ j) _ qs)
+  reached m x h j room (secret cl v kem d ks s ∷ qs) =
+      subst (λ (c : Classical). Reaches m x room (secret c v kem d ks s ∷ qs)) (classical-back cl)
+      (subst (λ (k : Kem). Reaches m x room (secret (classicalOf (given cl) (stated cl)) v k d ks s ∷ qs)) (kem-back m kem)
+      (secret-then m x h room qs j (given cl) (stated cl) v (kemNumber kem) d ks s (reached m _ (step-storable x room _ h) (method-kept x room _ ∙ j) _ qs)))
+  reached m x h j room (sign sg out kOut ∷ qs) =
+      subst (λ (n : ℕ). Reaches m x room (sign sg n kOut ∷ qs)) (length-zeros out)
+      (subst (λ (n : ℕ). Reaches m x room (sign sg (length (zeros out)) n ∷ qs)) (length-zeros kOut)
+      (sign-then m x h room qs sg (zeros out) (zeros kOut) (reached m _ (step-storable x room _ h) (method-kept x room _ ∙ j) _ qs)))
+  reached m x h j room (verdict a b kOut ∷ qs) =
+      subst (λ (t : Bool). Reaches m x room (verdict t b kOut ∷ qs)) (yes-back a)
+      (subst (λ (t : Bool). Reaches m x room (verdict (isYes (yesNo a)) t kOut ∷ qs)) (yes-back b)
+      (subst (λ (n : ℕ). Reaches m x room (verdict (isYes (yesNo a)) (isYes (yesNo b)) n ∷ qs)) (length-zeros kOut)
+      (verdict-then m x h room qs (yesNo a) (yesNo b) (zeros kOut) (reached m _ (step-storable x room _ h) (method-kept x room _ ∙ j) _ qs))))
 
   -- a start with no cause against it, in bytes that held nothing, and any list of calls after it
   told-of : (role m : ℕ) (vc vs ic is room : List ℕ) (qs : List Call) → startCause role m vc vs ic is (length room) ≡ 0
@@ -177,7 +178,7 @@ module _ (l : Lft) (g : GName) where
       (t .number)
       (lent (encoded (t .exchange)), (role, (m, (lent vc, (lent vs, (lent ic, (lent is, (lent (startedRoom role m vc vs ic is room), tt))))))))
       (start-called (zeros exchangeSize) role m vc vs ic is room (length-zeros exchangeSize)) (started-zero role m vc vs ic is (length room) z)
-      (reached (t .exchange) (start-storable role m vc vs ic is (length room)) (startedRoom role m vc vs ic is room) qs)
+      (reached m (t .exchange) (start-storable role m vc vs ic is (length room)) (start-method role m vc vs ic is (length room) z) (startedRoom role m vc vs ic is room) qs)
 
   -- for each role and method one ends complete
   pub completed : (role m : ℕ) (room : List ℕ) → roleOk role ≡ true → methodOk m ≡ true → roomLeast ≤ length room → Completed role m room
@@ -187,7 +188,9 @@ module _ (l : Lft) (g : GName) where
       let e : Exchange = started role m version version payload payload (length room) .exchange in
       let o : List ℕ = startedRoom role m version version payload payload room in
       let t = told-of role m version version payload payload room (sampleCalls role m) (c .0) in
-      let s = host-run (reached e (start-storable role m version version payload payload (length room)) o (sampleCalls role m)) e refl (start-storable role m version version payload payload (length room)) .storable in
+      let f = start-storable role m version version payload payload (length room) in
+      let j = start-method role m version version payload payload (length room) (c .0) in
+      let s = host-run (reached m e f j o (sampleCalls role m)) e refl f j .storable in
       record {
         book = opened role m version version payload payload;
         role-is = refl;

@@ -14,7 +14,6 @@ use Rattle.exchange.specs.Causes.{replyCause}
 use Rattle.exchange.specs.Steps.{Call, secret, kRecord}
 use Rattle.exchange.specs.Book.{Book, noted, lastBook, hashInput}
 use Rattle.arguments.specs.Arguments.{classicalOf, kemOf}
-use Rattle.stored.specs.Stored.{decoded}
 use Rattle.boundary.proofs.castulfrisa_take_secret as take-secret-fn
 use Rattle.boundary.proofs.castulfrisa_take_secret.Reads as take-secret-reads
 use Rattle.boundary.proofs.castulfrisa_sign as sign-fn
@@ -29,7 +28,7 @@ SecretHandsOut =
     (b₀ : Book) (room₀ : List ℕ) (calls : List Call) (numbers : List ℕ)
     (κs : Lfts 7) (a : ArgsD take-secret-fn.signature κs) (r : ℕ) (s : AtExit take-secret-fn.ended κs)
     → Told b₀ room₀ calls numbers (now (a .0)) (now (a .1 .0)) → take-secret-reads.Learnt κs a r s → r ≡ 0
-    → let q = secret (classicalOf (a .1 .1 .0) (a .1 .1 .1 .0)) (now (a .1 .1 .1 .1 .0)) (kemOf (decoded (now (a .0)) .method) (a .1 .1 .1 .1 .1 .0)) (now (a .1 .1 .1 .1 .1 .1 .0)) (now (a .1 .1 .1 .1 .1 .1 .1 .0)) (now (a .1 .1 .1 .1 .1 .1 .1 .1 .0)) in
+    → let q = secret (classicalOf (a .1 .1 .0) (a .1 .1 .1 .0)) (now (a .1 .1 .1 .1 .0)) (kemOf (b₀ .method) (a .1 .1 .1 .1 .1 .0)) (now (a .1 .1 .1 .1 .1 .1 .0)) (now (a .1 .1 .1 .1 .1 .1 .1 .0)) (now (a .1 .1 .1 .1 .1 .1 .1 .1 .0)) in
     let h = hashInput (noted (length room₀) (lastBook (length room₀) b₀ calls) q .fields) in
     (now (s .1 .1 .1 .1 .1 .1 .1 .1 .1 .0) ≡ length h) × (take (now (s .1 .1 .1 .1 .1 .1 .1 .1 .1 .0)) (now (s .1 .0)) ≡ h)
 

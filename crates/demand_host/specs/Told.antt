@@ -18,6 +18,6 @@ use Rattle.demand_host.specs.History.{History}
 pub data Told : Book → List ℕ → List Call → List ℕ → List ℕ → List ℕ → Type 0 where
   start-then : {calls : List Call} {numbers ex room : List ℕ}
       (κs : Lfts 6) (a : ArgsD start-fn.signature κs) (r : ℕ) (s : AtExit start-fn.ended κs) → start-reads.Learnt κs a r s → r ≡ 0 →
-      History (now (s .0)) (now (s .1 .1 .1 .1 .1 .1 .1 .0)) calls numbers ex room →
+      History (a .1 .1 .0) (now (s .0)) (now (s .1 .1 .1 .1 .1 .1 .1 .0)) calls numbers ex room →
       Told (opened (a .1 .0) (a .1 .1 .0) (now (a .1 .1 .1 .0)) (now (a .1 .1 .1 .1 .0)) (now (a .1 .1 .1 .1 .1 .0)) (now (a .1 .1 .1 .1 .1 .1 .0)))
       (now (a .1 .1 .1 .1 .1 .1 .1 .0)) calls numbers ex room

@@ -18,6 +18,7 @@ use Rattle.exchange.specs.Causes.{blobOk, replyCause, signCause, kOf}
 use Rattle.exchange.specs.Record.{kLength}
 use Rattle.exchange.specs.Steps.{Call, secret, sign, verdict, stepNo, fedCause, number, fieldsEnd, filled, taken, kRecord, replyOf, countOf, roomAfter}
 use Rattle.exchange.specs.Book.{Fields, Book, brings, stepsOf, firstCause, fieldsAfter, moved, noted, hashInput}
+use Rattle.exchange.specs.ExchangeTold.{exchangeOf}
 use Rattle.exchange.specs.declared.Classical.{Classical}
 use Rattle.exchange.specs.declared.Kem.{Kem}
 use Rattle.exchange.specs.declared.Exchange.{Exchange}
@@ -26,7 +27,7 @@ use Rattle.exchange.proofs.CauseFacts.{Base, FormedS, Blob, Key, method
 use Rattle.exchange.proofs.HashLaws.{hash-length, ks-stands, s-stands}
 use Rattle.exchange.proofs.StepLaws.{step-accepted}
 use Rattle.exchange.proofs.ReadBack.{reply-back}
-use Rattle.exchange.proofs.Simulation.{Reachable, client0, client1, client2, client3, client4, server0, server1, server2, server3, exchangeOf, accepts, Sim, live, dead, number-live, no-cause, dead-number}
+use Rattle.exchange.proofs.Simulation.{Reachable, client0, client1, client2, client3, client4, server0, server1, server2, server3, accepts, Sim, live, dead, number-live, no-cause, dead-number}
 
 -- a call that is accepted finds the exchange and the room as the book tells them, and has no cause against it there
 record Live (room : List ℕ) (b : Book) (e : Exchange) (room′ : List ℕ) (q : Call) : Type 0 where

@@ -10,14 +10,11 @@ use Rattle.transcript.specs.Fields.{field, fieldLength}
 use Rattle.transcript.proofs.RoomLaws.{length-field, field-some, over-onto, inserted}
 use Rattle.exchange.specs.Steps.{headEnd, fieldsEnd, standingC, standingKS, standingS}
 use Rattle.exchange.specs.Book.{Fields, hashInput}
+use Rattle.exchange.specs.ExchangeTold.{lengthsIn}
 use Rattle.exchange.specs.declared.Lengths.{Lengths}
 
 abbrev pub fieldsOf : (vc vs ic is ks c s k : List ℕ) → Fields
 fieldsOf vc vs ic is ks c s k = record { vc = vc; vs = vs; ic = ic; is = is; ks = ks; c = c; s = s; k = k }
-
--- the lengths that an exchange with these fields records
-abbrev pub lengthsIn : Fields → Lengths
-lengthsIn f = record { vc = length (f .vc); vs = length (f .vs); ic = length (f .ic); is = length (f .is); ks = length (f .ks); c = length (f .c); s = length (f .s) }
 
 -- both V and both I
 abbrev pub headIn : (vc vs ic is : List ℕ) → List ℕ

@@ -9,3 +9,4 @@ pub mod Simulation
 pub mod HandedLaws
 pub mod Sample
 pub mod Completes
+pub mod TheExchange

@@ -28,13 +28,14 @@ use Rattle.exchange.proofs.KindLaws.{kind-is-accepted, kind-fault, kind
 use Rattle.exchange.proofs.TableLaws.{OfEach, if-keeps, unless-keeps, fed-keeps}
 use Rattle.exchange.specs.Book.{Fields, Book, noFields, opened, stepsOf, firstCause, fieldsAfter, moved, dropped, noted, hasAll, hashInput, roomTold, isComplete, causes, lastBook}
 use Rattle.exchange.specs.Demand.{numbersOf, lastExchange, lastRoom, Never, AllOnes, SilentAfterFault, Held}
+use Rattle.exchange.specs.ExchangeTold.{lengthsIn, stagesOf, exchangeOf}
 use Rattle.exchange.specs.declared.Stage.{Stage}
 use Rattle.exchange.specs.declared.Stage.the-variants.{Started, CSent, InitRead, ReplyRead, SecretDone, Complete, Failed}
 use Rattle.exchange.specs.declared.Exchange.{Exchange}
 use Rattle.exchange.specs.declared.Step.{Step}
 use Rattle.exchange.proofs.CauseFacts.{Base, FormedC, FormedS, Blob, Key, method-row, start-known, own-c-formed, init-formed, reply-formed, secret-known, own-formed, key-sized}
 use Rattle.exchange.proofs.DueLaws.{lengths-fit, due-fits, next-failed}
-use Rattle.exchange.proofs.HashLaws.{fieldsOf, lengthsIn, hash-length, room-c, room-k, room-reply, room-secret}
+use Rattle.exchange.proofs.HashLaws.{fieldsOf, hash-length, room-c, room-k, room-reply, room-secret}
 
 abbrev pub book : ℕ → ℕ → ℕ → Fields → Book
 book role m done f = record { role = role; method = m; done = done; fields = f; faulted = false }
@@ -52,18 +53,6 @@ pub data Reachable : Book → Type 0 where
   server3 : {m : ℕ} {vc vs ic is ks c s k : List ℕ} → Base m vc vs ic is → FormedC m c → Blob ks → FormedS m s → Key m k → Reachable (book 2 m 3 (fieldsOf vc vs ic is ks c s k))
 
 -- ---- the exchange that a book without a fault tells
-
-abbrev pub stagesOf : ℕ → List Stage
-stagesOf role = cond (eqb role 1) (Started ∷ CSent ∷ ReplyRead ∷ SecretDone ∷ Complete ∷ []) (Started ∷ InitRead ∷ SecretDone ∷ Complete ∷ [])
-
-abbrev pub exchangeOf : Book → Exchange
-exchangeOf b = record {
-  stage = getD (stagesOf (b .role)) (b .done) Complete;
-  role = b .role;
-  method = b .method;
-  lens = lengthsIn (b .fields);
-  k = kRecord (b .fields .k);
-}
 
 -- a step is due on it exactly where it is the role's next in the book
 due-is : (b : Book) (q : Call) → Base (b .method) (b .fields .vc) (b .fields .vs) (b .fields .ic) (b .fields .is)
@@ -202,7 +191,7 @@ complete-of-book (server1 a c) = refl
 complete-of-book (server2 a c k s y) = refl
 complete-of-book (server3 a c k s y) = refl
 
-sound-live : {b : Book} → Reachable b → b .faulted ≡ false
+pub sound-live : {b : Book} → Reachable b → b .faulted ≡ false
 sound-live (client0 a) = refl
 sound-live (client1 a c) = refl
 sound-live (client2 a c k s) = refl
@@ -279,12 +268,12 @@ pub dead-number : (e : Exchange) (room : List ℕ) (n : ℕ) (q : Call) → e .s
 unfolding number stepNumber causeUnless
 dead-number e room n q y = rw (dead-due e n q y)
 
-dead-cause : (l : ℕ) (b : Book) (q : Call) → b .faulted ≡ true → firstCause l b q ≡ 1
+pub dead-cause : (l : ℕ) (b : Book) (q : Call) → b .faulted ≡ true → firstCause l b q ≡ 1
 unfolding firstCause causeIf
 dead-cause l b q x = rw x
 
 -- one call keeps the relation, and its number is the book's
-step : (room : List ℕ) (b : Book) (e : Exchange) (room′ : List ℕ) (q : Call) → roomLeast ≤ length room → Sim room b e room′ →
+pub step : (room : List ℕ) (b : Book) (e : Exchange) (room′ : List ℕ) (q : Call) → roomLeast ≤ length room → Sim room b e room′ →
     (number e room′ q ≡ firstCause (length room) b q) × Sim room (noted (length room) b q) (exchangeAfter e room′ q) (roomAfter e room′ q)
 unfolding exchangeAfter roomAfter noted
 step room b e room′ q h (live s x y) = rw (x, y) (number-live room b q h s, rw (number-live room b q h s) (settle room b q _ _ h s refl refl))

@@ -4,3 +4,4 @@ pub mod Record
 pub mod Steps
 pub mod Book
 pub mod Demand
+pub mod ExchangeTold

@@ -3,7 +3,7 @@
 use exchange::Step;
 use wire::Part;
 ghost use mathlib.Core.Path.{_≡_};
-ghost use mathlib.Core.List.{[], _∷_, _++_};
+ghost use mathlib.Core.List.{[], _∷_};
 ghost use lib.ListN.{length};
 ghost use Rattle.buffers.specs.Bytes.{zeros};
 ghost use Rattle.wire.specs.Parts.{nothing};

@@ -102,7 +102,7 @@
 //! drop(client.read_reply(&[31]));
 //! let stage = exchange[1];
 //! ```
-use crate::raw::{self, Told};
+use crate::raw::{self, Progress};
 use crate::refusal::{judged, Refusal};
 use crate::{bytes, Method, EXCHANGE};
 use core::fmt;
@@ -336,8 +336,8 @@ impl<E> fmt::Display for Stopped<E> {
 impl<E> core::error::Error for Stopped<E> {}
 
 impl<'r, R, S> Exchange<'r, R, S> {
-    fn told(&self) -> Told {
-        let mut told = Told::default();
+    fn told(&self) -> Progress {
+        let mut told = Progress::default();
         // 0: the bytes are an exchange's as long as it lives
         let _ = raw::state(self.lent.exchange, &mut told);
         told

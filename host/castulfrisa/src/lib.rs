@@ -88,7 +88,7 @@ pub const COOKIE: usize = 16;
 /// How many lists a KEXINIT has.
 pub const LISTS: usize = 10;
 /// The longest name of a method.
-pub const NAME_MOST: usize = 28;
+pub const METHOD_NAME_MOST: usize = 28;
 /// What `wipe_stack` wipes: no call of the core reaches as far.
 pub const STACK: usize = 4_096;
 

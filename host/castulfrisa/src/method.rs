@@ -1,5 +1,5 @@
 //! The nine methods: numbers, names and sizes.
-use crate::{raw, NAME_MOST};
+use crate::{raw, METHOD_NAME_MOST};
 use core::fmt;
 use core::ops::Deref;
 
@@ -48,7 +48,7 @@ impl Method {
 
     /// Its name on the wire.
     pub fn name(self) -> Name {
-        let (mut bytes, mut len) = ([0; NAME_MOST], 0);
+        let (mut bytes, mut len) = ([0; METHOD_NAME_MOST], 0);
         // 0: the buffer holds any method's name
         let _ = raw::method_name(self.number(), &mut bytes, &mut len);
         Name { bytes, len: len as usize }
@@ -75,7 +75,7 @@ impl Method {
 /// A method's name, as bytes.
 #[derive(Clone, Copy, PartialEq, Eq)]
 pub struct Name {
-    bytes: [u8; NAME_MOST],
+    bytes: [u8; METHOD_NAME_MOST],
     len: usize,
 }
 

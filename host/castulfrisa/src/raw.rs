@@ -87,7 +87,7 @@ pub struct Signed {
 /// How far an exchange has come, what ended it, its role and its method.
 #[repr(C)]
 #[derive(Clone, Copy, Debug, Default, PartialEq, Eq)]
-pub struct Told {
+pub struct Progress {
     pub stage: u64,
     pub fail: u64,
     pub role: u64,
@@ -174,7 +174,7 @@ mod c {
             exchange: *const u8, exchange_len: u64, room: *const u8, room_len: u64,
             payload: *const u8, payload_len: u64, signature: *mut Part,
         ) -> u64;
-        pub fn castulfrisa_state(exchange: *const u8, exchange_len: u64, told: *mut Told) -> u64;
+        pub fn castulfrisa_state(exchange: *const u8, exchange_len: u64, told: *mut Progress) -> u64;
         pub fn castulfrisa_wipe(buffer: *mut u8, buffer_len: u64);
         pub fn castulfrisa_version() -> u64;
     }
@@ -383,7 +383,7 @@ pub fn reply_signature(exchange: &[u8], room: &[u8], payload: &[u8], signature: 
 }
 
 /// How far an exchange has come.
-pub fn state(exchange: &[u8], told: &mut Told) -> u64 {
+pub fn state(exchange: &[u8], told: &mut Progress) -> u64 {
     unsafe { c::castulfrisa_state(exchange.as_ptr(), exchange.len() as u64, told) }
 }
 

@@ -68,7 +68,7 @@ fn sizes_are_the_headers() {
         ("DIGEST_MOST", DIGEST_MOST as u64),
         ("COOKIE", COOKIE as u64),
         ("LISTS", LISTS as u64),
-        ("NAME_MOST", NAME_MOST as u64),
+        ("METHOD_NAME_MOST", METHOD_NAME_MOST as u64),
         ("STACK", STACK as u64),
     ];
     assert_eq!(sizes(), BTreeMap::from(ours));

@@ -38,7 +38,7 @@ unsafe impl Numbers for raw::Proposed {}
 unsafe impl Numbers for raw::Choice {}
 unsafe impl Numbers for raw::Reply {}
 unsafe impl Numbers for raw::Signed {}
-unsafe impl Numbers for raw::Told {}
+unsafe impl Numbers for raw::Progress {}
 
 /// One buffer, which stays lent as it is until the next.
 pub struct Fence {

@@ -114,7 +114,7 @@ impl Lent {
     }
 
     fn state(&mut self, word: u64, tally: &mut Tally) -> [u64; 5] {
-        let told: &mut raw::Told = self.numbers.numbers(word, self.ahead.others);
+        let told: &mut raw::Progress = self.numbers.numbers(word, self.ahead.others);
         let number = raw::state(self.exchange.bytes(), told);
         tally.note("state", number);
         [number, told.stage, told.fail, told.role, told.method]

@@ -4,7 +4,7 @@ use mathlib.Core.Path.{ap, _∙_}
 use mathlib.Core.List.{[], _∷_, _++_}
 use Rattle.choice.specs.declared.Choice.{Choice}
 use Rattle.lent.specs.Lent.{placeOf}
-use Rattle.boundary.specs.Told.{choiceNumbers}
+use Rattle.boundary.specs.Answers.{choiceNumbers}
 use Rattle.boundary.proofs.castulfrisa_choose.Statement.{statement}
 use Rattle.boundary.proofs.castulfrisa_choose.Tie as tie
 

@@ -3,7 +3,7 @@ use borrow.Author.Needs.{needs}
 use mathlib.Core.Path.{ap}
 use Rattle.names.specs.declared.Next.{Next}
 use Rattle.lent.specs.Lent.{placeOf}
-use Rattle.boundary.specs.Told.{cursorNumbers}
+use Rattle.boundary.specs.Answers.{cursorNumbers}
 use Rattle.boundary.proofs.castulfrisa_next_name.Statement.{statement}
 use Rattle.boundary.proofs.castulfrisa_next_name.Tie as tie
 

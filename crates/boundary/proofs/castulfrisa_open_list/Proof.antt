@@ -4,7 +4,7 @@ use mathlib.Core.Path.{ap, _∙_}
 use mathlib.Core.List.{_∷_, _++_}
 use Rattle.kexinit.specs.declared.Opened.{Opened}
 use Rattle.lent.specs.Lent.{placeOf}
-use Rattle.boundary.specs.Told.{cursorNumbers, openedNumbers}
+use Rattle.boundary.specs.Answers.{cursorNumbers, openedNumbers}
 use Rattle.boundary.proofs.castulfrisa_open_list.Statement.{statement}
 use Rattle.boundary.proofs.castulfrisa_open_list.Tie as tie
 
