@@ -1,6 +1,5 @@
 // The start, the steps and the parts on an exchange in bytes that the host lends, with nothing by value: a call returns its number, and
 // its counts and places go through lent numbers. Bytes that no exchange has are answered 1, with all of these 0, and stay.
-use exchange::Step;
 use wire::Part;
 ghost use mathlib.Core.Path.{_≡_};
 ghost use mathlib.Core.List.{[], _∷_};
@@ -11,17 +10,8 @@ ghost use Rattle.messages.specs.Messages.{fieldPart};
 ghost use Rattle.exchange.specs.Numbers.{kind, byKind};
 ghost use Rattle.exchange.specs.Steps.{ownC, init, reply, secret as secretStep, sign as signStep, verdict as verdictStep, number, stepPart};
 ghost use Rattle.arguments.specs.Arguments.{isYes, classicalOf, kemOf};
-ghost use Rattle.stored.specs.Stored.{stageNumber, failNumber, encoded, decoded, byFit, bySize};
+ghost use Rattle.stored.specs.Stored.{stageNumber, failNumber, decoded, byFit};
 ghost use Rattle.lent.specs.Lent.{placeOf, left, lentStart, lentCall};
-
-// Stores the exchange of a step's answer, and answers its number.
-fn keep(ex: &mut [u8], s: Step) -> u64
-    ensures { λ n. ⌜ (n ≡ s .number) × (now (ex .exit) ≡ bySize (now (ex .entry)) (encoded (s .exchange)) (now (ex .entry))) ⌝ }
-{
-    let x = s.exchange;
-    stored::store(ex, x);
-    s.number as u64
-}
 
 // Starts an exchange in lent bytes, whatever they hold.
 pub fn start(
@@ -42,7 +32,9 @@ pub fn start(
     let r = arguments::byte_of(role);
     let m = arguments::byte_of(method);
     let s = steps::start(r, m, vc, vs, ic, is, room);
-    keep(ex, s)
+    let x = s.exchange;
+    stored::store(ex, x);
+    s.number as u64
 }
 
 // Client, own C. Told: INIT's count.
@@ -56,7 +48,9 @@ pub fn own_c(ex: &mut [u8], room: &mut [u8], c: &[u8], out: &mut [u8], count: &m
         let e = t.exchange;
         let s = client::own_c(e, room, c, out);
         *count = s.count as u64;
-        return keep(ex, s);
+        let x = s.exchange;
+        stored::store(ex, x);
+        return s.number as u64;
     }
     *count = 0;
     1
@@ -82,7 +76,9 @@ pub fn read_init(ex: &mut [u8], room: &mut [u8], payload: &[u8], place: &mut [u6
         let s = server::read_init(e, room, payload);
         let c = part_by(s.number, payload, 0);
         *place = [c.start as u64, c.len as u64];
-        return keep(ex, s);
+        let x = s.exchange;
+        stored::store(ex, x);
+        return s.number as u64;
     }
     *place = [0; 2];
     1
@@ -107,7 +103,9 @@ pub fn read_reply(ex: &mut [u8], room: &mut [u8], payload: &[u8], places: &mut [
             g.start as u64,
             g.len as u64,
         ];
-        return keep(ex, s);
+        let x = s.exchange;
+        stored::store(ex, x);
+        return s.number as u64;
     }
     *places = [0; 6];
     1
@@ -137,7 +135,9 @@ pub fn take_secret(
         let km = arguments::kem_of(e.method, kem);
         let a = steps::take_secret(e, room, cl, x, km, digest, ks, s);
         *count = a.count as u64;
-        return keep(ex, a);
+        let y = a.exchange;
+        stored::store(ex, y);
+        return a.number as u64;
     }
     *count = 0;
     1
@@ -161,7 +161,9 @@ pub fn sign(
         let e = t.exchange;
         let s = server::sign(e, room, signature, out, k_out);
         *counts = [s.count as u64, s.second as u64];
-        return keep(ex, s);
+        let x = s.exchange;
+        stored::store(ex, x);
+        return s.number as u64;
     }
     *counts = [0; 2];
     1
@@ -187,7 +189,9 @@ pub fn verdict(
         let b = arguments::is_yes(host_key);
         let s = client::verdict(e, room, a, b, k_out);
         *count = s.count as u64;
-        return keep(ex, s);
+        let x = s.exchange;
+        stored::store(ex, x);
+        return s.number as u64;
     }
     *count = 0;
     1

@@ -18,8 +18,11 @@ read-init-requires c κs = search needs
 part-by-requires : tie.Need-part-by-requires
 part-by-requires c κs = search needs
 
-keep-requires : tie.Need-keep-requires
-keep-requires c κs = search needs
+store-requires : tie.Need-store-requires
+store-requires c κs = search needs
+
+cast-result : tie.Need-cast-result
+cast-result c = search needs
 
 same-length : tie.Need-same-length
 same-length c = search needs
@@ -30,13 +33,13 @@ same-length-2 c = search needs
 returns : tie.Need-returns
 unfolding tells
 returns c =
-    let a = c .before .before .before .before .before .before .before .before .before .before .before .before .before .before .before .before .before .args in
+    let a = c .before .before .before .before .before .before .before .before .before .before .before .before .before .before .before .before .before .before .before .args in
     let b = now (a .ex) in
     let r = now (a .room) in
     let q = init (now (a .payload)) in
-    let o = c .before .before .before .before .before .before .before .before .before .before .before .before .load .ensures in
-    let f = c .before .before .before .before .before .before .before .before .before .before .before .if1 .taken in
-    call-taken b r q [] _ o f _ _ _ _ _ _ (c .before .before .before .before .before .before .before .before .read-init .ensures .0) (ap placeOf (part-step _ r q _ (now (a .payload)) 0 _ (c .before .before .before .before .before .before .before .before .read-init .ensures .0) (c .before .before .before .before .before .part-by .ensures))) (c .before .before .keep .ensures) (c .before .before .before .before .before .before .before .before .read-init .ensures .1) refl
+    let o = c .before .before .before .before .before .before .before .before .before .before .before .before .before .before .load .ensures in
+    let f = c .before .before .before .before .before .before .before .before .before .before .before .before .before .if1 .taken in
+    call-taken b r q [] _ o f _ _ _ _ _ _ (c .before .before .before .before .before .before .before .before .before .before .read-init .ensures .0) (ap placeOf (part-step _ r q _ (now (a .payload)) 0 _ (c .before .before .before .before .before .before .before .before .before .before .read-init .ensures .0) (c .before .before .before .before .before .before .before .part-by .ensures))) (refl, c .before .before .before .store .ensures) (c .before .before .before .before .before .before .before .before .before .before .read-init .ensures .1) refl
 
 same-length-3 : tie.Need-same-length-3
 same-length-3 c = search needs
@@ -56,7 +59,8 @@ read-init-spec =
     load-requires
     read-init-requires
     part-by-requires
-    keep-requires
+    store-requires
+    cast-result
     same-length
     same-length-2
     returns

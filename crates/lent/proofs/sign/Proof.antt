@@ -1,6 +1,6 @@
 -- `lent::sign` meets its contract. Assumes nothing.
 use borrow.Author.Needs.{needs}
-use mathlib.Core.Path.{sym, ap}
+use mathlib.Core.Path.{refl, sym, ap}
 use mathlib.Core.List.{[], _∷_}
 use lib.ListN.{length}
 use denote.Ref.{now}
@@ -17,8 +17,11 @@ load-requires c κs = search needs
 sign-requires : tie.Need-sign-requires
 sign-requires c κs = search needs
 
-keep-requires : tie.Need-keep-requires
-keep-requires c κs = search needs
+store-requires : tie.Need-store-requires
+store-requires c κs = search needs
+
+cast-result : tie.Need-cast-result
+cast-result c = search needs
 
 same-length : tie.Need-same-length
 same-length c = search needs
@@ -32,13 +35,13 @@ same-length-3 c = search needs
 returns : tie.Need-returns
 unfolding tells
 returns c =
-    let a = c .before .before .before .before .before .before .before .before .before .before .before .before .before .before .before .before .before .before .before .before .before .args in
+    let a = c .before .before .before .before .before .before .before .before .before .before .before .before .before .before .before .before .before .before .before .before .before .before .before .args in
     let b = now (a .ex) in
     let r = now (a .room) in
     let q = sign (now (a .signature)) (length (now (a .out))) (length (now (a .k-out))) in
-    let o = c .before .before .before .before .before .before .before .before .before .before .before .before .before .before .load .ensures in
-    let f = c .before .before .before .before .before .before .before .before .before .before .before .before .before .if1 .taken in
-    call-taken b r q (now (a .out) ∷ now (a .k-out) ∷ []) _ o f _ _ _ _ _ _ (c .before .before .before .before .before .before .before .before .before .sign .ensures .0) (ap bothCounts (c .before .before .before .before .before .before .before .before .before .sign .ensures .0)) (c .before .before .keep .ensures) (sym (sign-room _ r _ _ _)) (λ i. c .before .before .before .before .before .before .before .before .before .sign .ensures .1 i ∷ c .before .before .before .before .before .before .before .before .before .sign .ensures .2 i ∷ [])
+    let o = c .before .before .before .before .before .before .before .before .before .before .before .before .before .before .before .before .load .ensures in
+    let f = c .before .before .before .before .before .before .before .before .before .before .before .before .before .before .before .if1 .taken in
+    call-taken b r q (now (a .out) ∷ now (a .k-out) ∷ []) _ o f _ _ _ _ _ _ (c .before .before .before .before .before .before .before .before .before .before .before .sign .ensures .0) (ap bothCounts (c .before .before .before .before .before .before .before .before .before .before .before .sign .ensures .0)) (refl, c .before .before .before .store .ensures) (sym (sign-room _ r _ _ _)) (λ i. c .before .before .before .before .before .before .before .before .before .before .before .sign .ensures .1 i ∷ c .before .before .before .before .before .before .before .before .before .before .before .sign .ensures .2 i ∷ [])
 
 same-length-4 : tie.Need-same-length-4
 same-length-4 c = search needs
@@ -57,7 +60,8 @@ sign-spec =
     (tie.spec
     load-requires
     sign-requires
-    keep-requires
+    store-requires
+    cast-result
     same-length
     same-length-2
     same-length-3

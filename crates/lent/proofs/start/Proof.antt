@@ -1,6 +1,6 @@
 -- `lent::start` meets its contract. Assumes nothing.
 use borrow.Author.Needs.{needs}
-use mathlib.Core.Path.{_∙_}
+use mathlib.Core.Path.{refl, _∙_}
 use lib.ListN.{length}
 use denote.Ref.{now}
 use Rattle.exchange.specs.Steps.{started, startedRoom}
@@ -23,8 +23,11 @@ byte-of-requires-2 c κs = search needs
 start-requires : tie.Need-start-requires
 start-requires c κs = search needs
 
-keep-requires : tie.Need-keep-requires
-keep-requires c κs = search needs
+store-requires : tie.Need-store-requires
+store-requires c κs = search needs
+
+cast-result : tie.Need-cast-result
+cast-result c = search needs
 
 same-length : tie.Need-same-length
 same-length c = search needs
@@ -34,14 +37,14 @@ same-length-2 c = search needs
 
 returns-2 : tie.Need-returns-2
 returns-2 c =
-    let a = c .before .before .before .before .before .before .before .before .before .before .before .before .before .before .before .before .before .args in
-    let f = c .before .before .before .before .before .before .before .before .before .byte-of .ensures in
-    let g = c .before .before .before .before .before .before .before .before .byte-of2 .ensures in
-    let d = c .before .before .before .before .before .before .start .ensures in
+    let a = c .before .before .before .before .before .before .before .before .before .before .before .before .before .before .before .before .before .before .before .args in
+    let f = c .before .before .before .before .before .before .before .before .before .before .before .byte-of .ensures in
+    let g = c .before .before .before .before .before .before .before .before .before .before .byte-of2 .ensures in
+    let d = c .before .before .before .before .before .before .before .before .start .ensures in
     let w = start-wide (now (a .vc)) (now (a .vs)) (now (a .ic)) (now (a .is)) (a .role) (a .method) (now (a .room)) in
-    start-taken (now (a .ex)) (a .role) (a .method) (now (a .vc)) (now (a .vs)) (now (a .ic)) (now (a .is)) (now (a .room)) (c .before .before .before .before .before .before .before .before .before .before .if1 .left) _ _ _ _
+    start-taken (now (a .ex)) (a .role) (a .method) (now (a .vc)) (now (a .vs)) (now (a .ic)) (now (a .is)) (now (a .room)) (c .before .before .before .before .before .before .before .before .before .before .before .before .if1 .left) _ _ _ _
     (d .0 ∙ (λ i. started (f i) (g i) (now (a .vc)) (now (a .vs)) (now (a .ic)) (now (a .is)) (length (now (a .room)))) ∙ w .0)
-    (c .before .before .keep .ensures)
+    (refl, c .before .before .before .store .ensures)
     (d .1 ∙ (λ i. startedRoom (f i) (g i) (now (a .vc)) (now (a .vs)) (now (a .ic)) (now (a .is)) (now (a .room))) ∙ w .1)
 
 pub start-spec : {M : Type 1} → statement M
@@ -52,7 +55,8 @@ start-spec =
     byte-of-requires
     byte-of-requires-2
     start-requires
-    keep-requires
+    store-requires
+    cast-result
     same-length
     same-length-2
     returns-2)

@@ -25,8 +25,11 @@ kem-of-requires c κs = search needs
 take-secret-requires : tie.Need-take-secret-requires
 take-secret-requires c κs = search needs
 
-keep-requires : tie.Need-keep-requires
-keep-requires c κs = search needs
+store-requires : tie.Need-store-requires
+store-requires c κs = search needs
+
+cast-result : tie.Need-cast-result
+cast-result c = search needs
 
 same-length : tie.Need-same-length
 same-length c = search needs
@@ -37,16 +40,16 @@ same-length-2 c = search needs
 returns : tie.Need-returns
 unfolding tells
 returns c =
-    let a = c .before .before .before .before .before .before .before .before .before .before .before .before .before .before .before .before .before .before .before .before .args in
+    let a = c .before .before .before .before .before .before .before .before .before .before .before .before .before .before .before .before .before .before .before .before .before .before .args in
     let b = now (a .ex) in
     let r = now (a .room) in
     let q = secret (classicalOf (a .given) (a .x-count)) (now (a .x)) (kemOf (decoded b .method) (a .kem)) (now (a .digest)) (now (a .ks)) (now (a .s)) in
-    let o = c .before .before .before .before .before .before .before .before .before .before .before .before .load .ensures in
-    let f = c .before .before .before .before .before .before .before .before .before .before .before .if1 .taken in
-    let k = c .before .before .before .before .before .before .before .before .kem-of .ensures ∙ ap (λ (e : Exchange). kemOf (e .method) (a .kem)) (taken-exchange b _ o f) in
-    let w : secret (c .before .before .before .before .before .before .before .before .before .classical-of .result) (now (a .x)) (c .before .before .before .before .before .before .before .before .kem-of .result) (now (a .digest)) (now (a .ks)) (now (a .s)) ≡ q = λ i. secret (c .before .before .before .before .before .before .before .before .before .classical-of .ensures i) (now (a .x)) (k i) (now (a .digest)) (now (a .ks)) (now (a .s)) in
-    let d = c .before .before .before .before .before .before .take-secret .ensures .0 ∙ ap (answered (c .before .before .before .before .before .before .before .before .before .before .before .before .load .result .exchange) r) w in
-    call-taken b r q [] _ o f _ _ _ _ _ _ d (ap counts d) (c .before .before .keep .ensures) (c .before .before .before .before .before .before .take-secret .ensures .1 ∙ ap (roomAfter (c .before .before .before .before .before .before .before .before .before .before .before .before .load .result .exchange) r) w) refl
+    let o = c .before .before .before .before .before .before .before .before .before .before .before .before .before .before .load .ensures in
+    let f = c .before .before .before .before .before .before .before .before .before .before .before .before .before .if1 .taken in
+    let k = c .before .before .before .before .before .before .before .before .before .before .kem-of .ensures ∙ ap (λ (e : Exchange). kemOf (e .method) (a .kem)) (taken-exchange b _ o f) in
+    let w : secret (c .before .before .before .before .before .before .before .before .before .before .before .classical-of .result) (now (a .x)) (c .before .before .before .before .before .before .before .before .before .before .kem-of .result) (now (a .digest)) (now (a .ks)) (now (a .s)) ≡ q = λ i. secret (c .before .before .before .before .before .before .before .before .before .before .before .classical-of .ensures i) (now (a .x)) (k i) (now (a .digest)) (now (a .ks)) (now (a .s)) in
+    let d = c .before .before .before .before .before .before .before .before .take-secret .ensures .0 ∙ ap (answered (c .before .before .before .before .before .before .before .before .before .before .before .before .before .before .load .result .exchange) r) w in
+    call-taken b r q [] _ o f _ _ _ _ _ _ d (ap counts d) (refl, c .before .before .before .store .ensures) (c .before .before .before .before .before .before .before .before .take-secret .ensures .1 ∙ ap (roomAfter (c .before .before .before .before .before .before .before .before .before .before .before .before .before .before .load .result .exchange) r) w) refl
 
 same-length-3 : tie.Need-same-length-3
 same-length-3 c = search needs
@@ -67,7 +70,8 @@ take-secret-spec =
     classical-of-requires
     kem-of-requires
     take-secret-requires
-    keep-requires
+    store-requires
+    cast-result
     same-length
     same-length-2
     returns

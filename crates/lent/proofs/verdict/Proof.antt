@@ -1,6 +1,6 @@
 -- `lent::verdict` meets its contract. Assumes nothing.
 use borrow.Author.Needs.{needs}
-use mathlib.Core.Path.{_≡_, ap, _∙_}
+use mathlib.Core.Path.{_≡_, refl, ap, _∙_}
 use mathlib.Core.List.{[], _∷_}
 use lib.ListN.{length}
 use denote.Ref.{now}
@@ -23,8 +23,11 @@ is-yes-requires-2 c κs = search needs
 verdict-requires : tie.Need-verdict-requires
 verdict-requires c κs = search needs
 
-keep-requires : tie.Need-keep-requires
-keep-requires c κs = search needs
+store-requires : tie.Need-store-requires
+store-requires c κs = search needs
+
+cast-result : tie.Need-cast-result
+cast-result c = search needs
 
 same-length : tie.Need-same-length
 same-length c = search needs
@@ -38,15 +41,15 @@ same-length-3 c = search needs
 returns : tie.Need-returns
 unfolding tells
 returns c =
-    let a = c .before .before .before .before .before .before .before .before .before .before .before .before .before .before .before .before .before .before .before .before .args in
+    let a = c .before .before .before .before .before .before .before .before .before .before .before .before .before .before .before .before .before .before .before .before .before .before .args in
     let b = now (a .ex) in
     let r = now (a .room) in
     let q = verdict (isYes (a .signature)) (isYes (a .host-key)) (length (now (a .k-out))) in
-    let o = c .before .before .before .before .before .before .before .before .before .before .before .before .before .before .before .load .ensures in
-    let f = c .before .before .before .before .before .before .before .before .before .before .before .before .before .before .if1 .taken in
-    let w : verdict (c .before .before .before .before .before .before .before .before .before .before .before .before .is-yes .result) (c .before .before .before .before .before .before .before .before .before .before .before .is-yes2 .result) (length (now (a .k-out))) ≡ q = λ i. verdict (c .before .before .before .before .before .before .before .before .before .before .before .before .is-yes .ensures i) (c .before .before .before .before .before .before .before .before .before .before .before .is-yes2 .ensures i) (length (now (a .k-out))) in
-    let d = c .before .before .before .before .before .before .before .before .verdict .ensures .0 ∙ ap (answered (c .before .before .before .before .before .before .before .before .before .before .before .before .before .before .before .load .result .exchange) r) w in
-    call-taken b r q (now (a .k-out) ∷ []) _ o f _ _ _ _ _ _ d (ap counts d) (c .before .before .keep .ensures) (c .before .before .before .before .before .before .before .before .verdict .ensures .1 ∙ ap (roomAfter (c .before .before .before .before .before .before .before .before .before .before .before .before .before .before .before .load .result .exchange) r) w) (λ i. (c .before .before .before .before .before .before .before .before .verdict .ensures .2 ∙ ap (λ (y : Call). outputAfter (number (c .before .before .before .before .before .before .before .before .before .before .before .before .before .before .before .load .result .exchange) r y) (now (a .k-out)) (c .before .before .before .before .before .before .before .before .before .before .before .before .before .before .before .load .result .exchange .k)) w) i ∷ [])
+    let o = c .before .before .before .before .before .before .before .before .before .before .before .before .before .before .before .before .before .load .ensures in
+    let f = c .before .before .before .before .before .before .before .before .before .before .before .before .before .before .before .before .if1 .taken in
+    let w : verdict (c .before .before .before .before .before .before .before .before .before .before .before .before .before .before .is-yes .result) (c .before .before .before .before .before .before .before .before .before .before .before .before .before .is-yes2 .result) (length (now (a .k-out))) ≡ q = λ i. verdict (c .before .before .before .before .before .before .before .before .before .before .before .before .before .before .is-yes .ensures i) (c .before .before .before .before .before .before .before .before .before .before .before .before .before .is-yes2 .ensures i) (length (now (a .k-out))) in
+    let d = c .before .before .before .before .before .before .before .before .before .before .verdict .ensures .0 ∙ ap (answered (c .before .before .before .before .before .before .before .before .before .before .before .before .before .before .before .before .before .load .result .exchange) r) w in
+    call-taken b r q (now (a .k-out) ∷ []) _ o f _ _ _ _ _ _ d (ap counts d) (refl, c .before .before .before .store .ensures) (c .before .before .before .before .before .before .before .before .before .before .verdict .ensures .1 ∙ ap (roomAfter (c .before .before .before .before .before .before .before .before .before .before .before .before .before .before .before .before .before .load .result .exchange) r) w) (λ i. (c .before .before .before .before .before .before .before .before .before .before .verdict .ensures .2 ∙ ap (λ (y : Call). outputAfter (number (c .before .before .before .before .before .before .before .before .before .before .before .before .before .before .before .before .before .load .result .exchange) r y) (now (a .k-out)) (c .before .before .before .before .before .before .before .before .before .before .before .before .before .before .before .before .before .load .result .exchange .k)) w) i ∷ [])
 
 same-length-4 : tie.Need-same-length-4
 same-length-4 c = search needs
@@ -67,7 +70,8 @@ verdict-spec =
     is-yes-requires
     is-yes-requires-2
     verdict-requires
-    keep-requires
+    store-requires
+    cast-result
     same-length
     same-length-2
     same-length-3
