@@ -9,6 +9,7 @@ use lib.Dec.{leb, eqb}
 use borrow.Author.Tests.{eq-eqb, ne-eqb, le-leb, lt-leb, leb-false}
 use Rattle.wire.specs.Causes.{causeUnless}
 use Rattle.wire.proofs.CauseLaws.{unless-fails}
+use Rattle.limits.proofs.BoolLaws.{and-false}
 use Rattle.limits.proofs.RangeLaws.{within-high}
 use Rattle.methods.specs.Rows.{hybrid, rowOf, rows, rowIn, noRow}
 use Rattle.methods.specs.declared.KForm.{KForm}
@@ -72,10 +73,6 @@ kem-four role m n cl x d ks s h = unless-fails _ 4 _ (second (xOk (rowOf m) cl x
 
 abbrev refusal : Step
 refusal = record { number = 2; count = 0; second = 0; exchange = ended 2 0 0 }
-
-and-false : (t : Bool) → t && false ≡ false
-and-false true = refl
-and-false false = refl
 
 module _ (vc vs ic is : List ℕ) where
   strange : (role m : ℕ) (room : ℕ) → methodOk m && roleOk role ≡ false → started role m vc vs ic is room ≡ refusal

@@ -2,7 +2,7 @@
 use Prim.Native.Nat.{ℕ, suc, _+_, _-_, _≤_, _<_}
 use mathlib.Core.Path.{_≡_, refl, sym, ap, _∙_}
 use mathlib.Core.List.{List, [], _∷_}
-use mathlib.Core.Bool.{Bool, true, false, cond, not, _&&_}
+use mathlib.Core.Bool.{Bool, true, false, cond, _&&_}
 use native.Mathlib.Omega.{arith}
 use lib.ListN.{length, getD, take, drop}
 use lib.Dec.{leb, eqb}
@@ -46,14 +46,6 @@ module _ (s : List ℕ) (from to : ℕ) where
   stands-there h k b e = rw (le-leb from to h, le-leb to (length s) k, e)
 
 -- ---- the first bad one
-
-pub not-true : (t : Bool) → not t ≡ true → t ≡ false
-not-true true e = sym e
-not-true false e = refl
-
-pub not-false : (t : Bool) → not t ≡ false → t ≡ true
-not-false true e = refl
-not-false false e = sym e
 
 module _ (s ends : List ℕ) (at i : ℕ) where
   bad-step : i < listCount → badAt s ends at i (listCount - i) ≡ cond (goodAt s at (getD ends i 0)) (badAt s ends (getD ends i 0) (i + 1) (listCount - (i + 1))) (i + 1)

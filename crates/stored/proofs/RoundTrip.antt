@@ -9,6 +9,7 @@ use lib.Seq.{drop-cons}
 use lib.Dec.{eqb, leb}
 use borrow.Author.Tests.{eqb-true, ne-eqb, lt-leb}
 use Rattle.limits.specs.Limits.{kSize, exchangeSize, exchangeMark}
+use Rattle.limits.proofs.BoolLaws.{and-false}
 use Rattle.buffers.specs.Bytes.{Bytes}
 use Rattle.exchange.specs.declared.Stage.{Stage}
 use Rattle.exchange.specs.declared.Stage.the-variants.{Started, CSent, InitRead, ReplyRead, SecretDone, Complete, Failed}
@@ -157,10 +158,6 @@ decoded-short b y = record {
 pub unfit-size : (b : List ℕ) → ¬ (length b ≡ exchangeSize) → fits b ≡ false
 unfolding fits
 unfit-size b h = rw (ne-eqb (length b) exchangeSize h)
-
-and-false : (t : Bool) → t && false ≡ false
-and-false true = refl
-and-false false = refl
 
 pub unfit-mark : (b : List ℕ) → ¬ (getD b 0 0 ≡ exchangeMark) → fits b ≡ false
 unfolding fits marksFit

@@ -1,12 +1,13 @@
 -- `lists::first_bad` meets its contract. Assumes nothing.
 use borrow.Author.Needs.{needs}
 use Rattle.limits.specs.Limits.{listCount}
+use Rattle.limits.proofs.BoolLaws.{holds, fails}
 use Prim.Native.Nat.{_-_, _≤_}
 use mathlib.Core.Path.{_≡_, refl, sym, _∙_}
 use native.Mathlib.Omega.{arith}
 use denote.Ref.{now}
 use Rattle.lists.specs.Lists.{badAt, firstBad}
-use Rattle.lists.proofs.ListsLaws.{not-true, not-false, bad-here, bad-on, bad-none}
+use Rattle.lists.proofs.ListsLaws.{bad-here, bad-on, bad-none}
 use Rattle.lists.proofs.first_bad.Statement.{statement}
 use Rattle.lists.proofs.first_bad.Tie as tie
 
@@ -35,7 +36,7 @@ returns : tie.Need-returns Inv-loop μ-loop
 returns c =
     let l = now (c .before .before .before .before .before .before .args .lists) in
     let e = now (c .before .before .before .before .before .before .args .ends) in
-    sym (bad-here l e (c .before .before .before .before .loop .at) (c .before .before .before .before .loop .i) (omega arith) (sym (c .before .good-at .ensures) ∙ not-true _ (c .if1 .taken))) ∙ c .before .before .before .before .loop .inv .1
+    sym (bad-here l e (c .before .before .before .before .loop .at) (c .before .before .before .before .loop .i) (omega arith) (fails (c .before .good-at .ensures) (c .if1 .taken))) ∙ c .before .before .before .before .loop .inv .1
 
 add-i : tie.Need-add-i Inv-loop μ-loop
 add-i c = omega arith
@@ -47,7 +48,7 @@ loop-again : tie.Need-loop-again Inv-loop μ-loop
 loop-again c =
     let l = now (c .before .before .before .before .before .before .args .lists) in
     let e = now (c .before .before .before .before .before .before .args .ends) in
-    (omega arith, sym (bad-on l e (c .before .before .before .before .loop .at) (c .before .before .before .before .loop .i) (omega arith) (sym (c .before .good-at .ensures) ∙ not-false _ (c .if1 .left))) ∙ c .before .before .before .before .loop .inv .1)
+    (omega arith, sym (bad-on l e (c .before .before .before .before .loop .at) (c .before .before .before .before .loop .i) (omega arith) (holds (c .before .good-at .ensures) (c .if1 .left))) ∙ c .before .before .before .before .loop .inv .1)
 
 returns-2 : tie.Need-returns-2 Inv-loop μ-loop
 returns-2 c =
