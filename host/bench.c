@@ -167,15 +167,22 @@ static void put_part(castulfrisa_part p, bytes input)
     }
 }
 
+/* n modulo 2^31 - 1, for n below 2^61. A division of 64 bits is a call on a machine of 32, and this one is made for each byte. */
+static uint32_t reduced(uint64_t n)
+{
+    uint32_t m = 2147483647, sum = (uint32_t)(n & m) + (uint32_t)(n >> 31);
+    return sum < m ? sum : sum - m;
+}
+
 /* The protocol's digest: neither product reaches 2^48. */
 static void put_digest(const uint8_t *at, size_t len)
 {
-    uint64_t h = 0, g = 0, m = 2147483647;
+    uint32_t h = 0, g = 0;
     for (size_t i = 0; i < len; i++) {
-        h = (h * 257 + at[i] + 1) % m;
-        g = (g * 65599 + at[i] + 1) % m;
+        h = reduced((uint64_t)h * 257 + at[i] + 1);
+        g = reduced((uint64_t)g * 65599 + at[i] + 1);
     }
-    printf("%08lx%08lx", (unsigned long)h, (unsigned long)g);
+    printf("%08" PRIx32 "%08" PRIx32, h, g);
 }
 
 static void put_out(bytes out)

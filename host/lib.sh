@@ -1,12 +1,22 @@
 #!/bin/sh
-# Leaves the static library in FILE, proved before it is built. FILE.key has the sum of what it was made of (the sources of the crates
-# that `boundary` reaches, their lines in crates.txt, the toolchain) and its own: where both are the same, nothing is proved again.
-# usage: lib.sh FILE
+# Leaves the library in build/, twice from one proof: libcastulfrisa.a for speed, which is what `rt staticlib boundary` makes, and
+# libcastulfrisa-small.a for size; those for another machine in build/TARGET/ (clang.sh has the targets and what differs).
+# FILE.key has the sum of what FILE was made of (the sources of the crates that `boundary` reaches, their lines in crates.txt, the toolchain,
+# the scripts here) and its own: where both are the same, nothing is proved or built again.
+# usage: lib.sh [TARGET...]
 set -eu
 cd "$(dirname "$0")/.."
-file=$1
-log=build/staticlib.log
+root=$(pwd -P)
+log=build/lib.log
 mkdir -p build
+
+known=$(sh host/clang.sh targets)
+[ $# -gt 0 ] || set -- x86-64
+for target; do
+    case " $known " in *" $target "*) ;; *) echo "lib: there is no target $target; there are: $known" >&2; exit 2 ;; esac
+done
+
+# ---- what is asked for and not there
 
 line() { sed -n "s/^$1:\([^#]*\).*/\1/p" crates.txt; }
 
@@ -22,7 +32,7 @@ while [ -n "$todo" ]; do
     todo=$(echo $next)
 done
 
-key=$({
+proof=$({
     rt version
     for crate in $reached; do
         echo "$crate: $(line "$crate")"
@@ -32,11 +42,91 @@ key=$({
     done
 } | sha256sum)
 
-if [ -f "$file" ] && [ "$(cat "$file.key" 2>/dev/null)" = "$key $(sha256sum <"$file")" ]; then exit 0; fi
-rm -f "$file.key"
-echo "lib: the library, proved before it is built (some three minutes from nothing)"
-# what lies below first: rt check takes as many at a time as there are cores, rt staticlib one
+file_of() { # TARGET VARIANT
+    case $1 in x86-64) folder=build ;; *) folder=build/$1 ;; esac
+    case $2 in speed) echo "$folder/libcastulfrisa.a" ;; *) echo "$folder/libcastulfrisa-$2.a" ;; esac
+}
+key_of() { # TARGET VARIANT FILE
+    echo "$({ echo "$proof $1 $2"; cat host/lib.sh host/clang.sh host/retarget.py; } | sha256sum) $(sha256sum <"$3")"
+}
+
+missing=''
+for target; do
+    for variant in speed small; do
+        file=$(file_of "$target" $variant)
+        [ -f "$file" ] && [ "$(cat "$file.key" 2>/dev/null)" = "$(key_of "$target" $variant "$file")" ] || missing="$missing $target/$variant"
+    done
+done
+[ -n "$missing" ] || exit 0
+
+# ---- the proof. rattle is called as `rt staticlib` calls it, in two steps, so that what is proved once is built as often as asked.
+
+home=$(cd "${RATTLE_HOME:-$(dirname "$(readlink -f "$(command -v rt)")")/..}" && pwd -P)
+own=$home/on/$(uname -m)
+
+words() {
+    printf '%s\n' --crate-name boundary "$root/crates/boundary/src/lib.rt" --extern "std=$own/rlib/std.rlib"
+    for crate in $(line boundary); do
+        if [ -d "crates/$crate" ]; then printf '%s\n' --extern "$crate=$root/target/rlib/$crate.rlib"
+        else printf '%s\n' --extern "$crate=$own/rlib/$crate.rlib"; fi
+    done
+    printf '%s\n' -L "dependency=$root/target/rlib" -L "dependency=$own/rlib" --antt-project "$home/logic/antt-project.json" --crate-type staticlib
+}
+rattle() { # VERB WORDS...
+    verb=$1 all=$(words) oldifs=$IFS
+    shift
+    IFS='
+'
+    # shellcheck disable=SC2086
+    set -- $all "$@"
+    IFS=$oldifs
+    "$own/bin/rattle" "$verb" "$@"
+}
+
+# what lies below first: rt check takes as many at a time as there are cores
 # shellcheck disable=SC2086
-{ rt check ${reached# boundary} && rt staticlib boundary; } >$log 2>&1 || { tail -n 40 $log; echo "lib: not proved, see $log"; exit 1; }
-cmp -s target/staticlib/libboundary.a "$file" || cp target/staticlib/libboundary.a "$file"
-echo "$key $(sha256sum <"$file")" >"$file.key"
+prove() { rt check ${reached# boundary} && rattle check --logic-built "$own/logic-built" -o build/checked; }
+
+# as rt has it: a crate that declares C functions has axioms of its own
+refuse_foreign() {
+    if grep '^logic=proved .*foreign=' $log; then echo "lib: not proved, the crate declares C functions of its own"; exit 1; fi
+}
+
+if [ ! -d build/checked ] || [ "$(cat build/checked.key 2>/dev/null)" != "$proof" ]; then
+    rm -f build/checked.key
+    echo "lib: the library is proved before it is built (some three minutes from nothing)"
+    prove >$log 2>&1 || { tail -n 40 $log; echo "lib: not proved, see $log"; exit 1; }
+    refuse_foreign
+    echo "$proof" >build/checked.key
+fi
+
+# ---- the archives. rattle takes the verdict only where the inputs are those that were checked.
+
+build() { # TARGET VARIANT
+    file=$(file_of "$1" "$2")
+    tools=$root/build/toolchain/$1-$2
+    mkdir -p "$(dirname "$file")" "$tools/bin"
+    ln -sfn "$own/toolchain/lib" "$tools/lib"
+    ln -sf "$own/toolchain/bin/llvm-ar" "$own/toolchain/bin/ld.lld" "$tools/bin/"
+    # rattle hands on no environment
+    printf '#!/bin/sh\nPATH="%s" exec sh "%s" "%s" %s %s "$@"\n' "$PATH" "$root/host/clang.sh" "$own/toolchain/bin/clang" "$1" "$2" >"$tools/bin/clang"
+    chmod +x "$tools/bin/clang"
+    rm -f "$file.key"
+    rattle build --crate-checked build/checked --toolchain "$tools" -o "$file.new" >>$log 2>&1 || { tail -n 20 $log; echo "lib: $file not built, see $log"; return 1; }
+    # the same bytes stay the same file, so that nothing that was made of it is made again
+    if cmp -s "$file.new" "$file"; then rm "$file.new"; else mv "$file.new" "$file"; fi
+    key_of "$1" "$2" "$file" >"$file.key"
+    echo "lib: $file"
+}
+
+# two at a time
+status=0 first=''
+for each in $missing; do
+    (build "${each%/*}" "${each#*/}") &
+    if [ -z "$first" ]; then first=$!; continue; fi
+    wait $! || status=1
+    wait "$first" || status=1
+    first=''
+done
+[ -z "$first" ] || wait "$first" || status=1
+exit $status

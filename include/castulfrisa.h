@@ -1,12 +1,14 @@
-/* castulfrisa: the key-exchange core of SSH, as one static library, libcastulfrisa.a. C99 and C++, 32 and 64 bits.
+/* castulfrisa: the key-exchange core of SSH, as one static library: libcastulfrisa.a for speed, or libcastulfrisa-small.a for size. C99 and
+   C++, 32 and 64 bits.
 
    It reads and writes the messages, negotiates, encodes the shared secret and builds the hash input. Random numbers, curve and KEM
-   primitives, digests, signatures and known-host lists are the host's; so are memcpy and memset, which the library calls. It keeps
+   primitives, digests, signatures and known-host lists are the host's; so are memcpy, memmove and memset, which the library calls. It keeps
    nothing: no memory, no pointer, no state. It takes any bytes and any call at any time, and every call ends.
 
    WHAT CROSSES
    - Buffers as a pointer and a 64-bit length in bytes, 64-bit numbers, and pointers to 64-bit numbers that the call fills in; nothing
-     else, so that one library serves every calling convention. The structs below are runs of 64-bit numbers and cross as a pointer.
+     else, so that one library serves every calling convention. The structs below are runs of 64-bit numbers and cross as a pointer. On
+     32 bits a length is a 64-bit number too, wider than size_t: the prototypes convert what is handed in, and a size_t takes what is told.
    - A buffer's length of 0 takes any pointer, also NULL. A pointer to numbers is never NULL, and stands at a multiple of 8.
    - Every buffer stays the caller's. `const` buffers are read and never written. What is written, buffer or numbers, shares no byte with
      anything else of the same call; and while a call runs, nobody else writes what it was lent or reads what it writes.

@@ -1,17 +1,19 @@
 #!/usr/bin/env python3
-"""The bench as a program: document 01's examples through it, each answer computed here, and what it does with lines that are none.
+"""The bench as a program: document 01's examples and the captured exchanges through it, each answer computed here, and what it does with
+lines that are none.
 
-usage: bench_test.py BENCH
+usage: bench_test.py BENCH      (a program, or a command of several words: what runs it, and the program)
 """
 import subprocess
 import sys
 
 sys.dont_write_bytecode = True
+from captured import captures, string
 from kexinit_cases import cases as kexinit_cases
 
 
 def run(bench, script, *words):
-    p = subprocess.run([bench, *words], input=script.encode(), capture_output=True, timeout=60)
+    p = subprocess.run([*bench, *words], input=script.encode(), capture_output=True, timeout=60)
     return p.returncode, p.stdout.decode().splitlines(), p.stderr.decode().splitlines()
 
 
@@ -25,10 +27,6 @@ def digest(data):
 
 def out(data):
     return f'out={len(data)}:{digest(data)}'
-
-
-def string(b):
-    return len(b).to_bytes(4, 'big') + b
 
 
 def h(b):
@@ -166,6 +164,50 @@ def exchanges():
     yield ['blank', 'set fail 9'], ['0 | ex 0.0.failed.0.', '0 | ex 0.0.failed.9.']
 
 
+HASHED = ('V_C', 'V_S', 'I_C', 'I_S', 'K_S', 'C', 'S')
+STARTED, WITH_C = HASHED[:4], (*HASHED[:4], 'C')
+
+
+def lent(data, size):
+    """A buffer that was lent with 55 in it, and begins with data."""
+    return data.ljust(size, b'\x55')
+
+
+def captured():
+    """Every captured exchange in both roles: what its steps tell, INIT, REPLY and K, and every byte of exchange and room after each."""
+    for method, f in captures():
+        k, k_out = f['K'], lent(f['K'].ljust(71, b'\0'), 75)
+        hashed = sum(len(string(f[name])) for name in HASHED) + len(k)
+
+        def after(role, stage, names, k=b''):
+            room = b''.join(string(f[name]) for name in HASHED if name in names) + k
+            lens = ','.join(str(len(f[name]) if name in names else 0) for name in HASHED)
+            return f' | ex {role}.{method}.{stage}.0.{lens} k={digest(k.ljust(71, bytes(1)))} room={digest(lent(room, 14156))}'
+
+        def parts(*names):
+            """Fields one behind another in a payload, behind its message number."""
+            at = 1
+            for name in names:
+                yield f' {at + 4}:{h(f[name])}'
+                at += len(string(f[name]))
+
+        def start(role):
+            return ['room 55*14156', f'start {role} {method} ' + ' '.join(h(f[name]) for name in STARTED)]
+
+        secret = f'secret G{len(f["X"])} {h(f["X"])} {"d" if f["digest"] else "a"} {h(f["digest"])}'
+        yield start(1) + [f'ownc {h(f["C"])} 55*1670', f'reply {h(f["REPLY"])}', f'{secret} - -', 'verdict 1 1 55*75'], [
+            '0', '0' + after(1, 'started', STARTED),
+            f'0 {len(f["INIT"])} {out(lent(f["INIT"], 1670))}' + after(1, 'own_c', WITH_C),
+            '0' + ''.join(parts('K_S', 'S', 'signature')) + after(1, 'reply', HASHED),
+            f'0 {hashed}' + after(1, 'secret', HASHED, k),
+            f'0 {len(k)} {out(k_out)}' + after(1, 'complete', HASHED, k)]
+        yield start(2) + [f'init {h(f["INIT"])}', f'{secret} {h(f["K_S"])} {h(f["S"])}', f'sign {h(f["signature"])} 55*5774 55*75'], [
+            '0', '0' + after(2, 'started', STARTED),
+            '0' + ''.join(parts('C')) + after(2, 'init', WITH_C),
+            f'0 {hashed}' + after(2, 'secret', HASHED, k),
+            f'0 {len(f["REPLY"])} {len(k)} {out(lent(f["REPLY"], 5774))} {out(k_out)}' + after(2, 'complete', HASHED, k)]
+
+
 BAD = [
     'what', 'rstr', 'rstr 0', 'rstr 0g', 'rstr AB', 'rstr  00', 'rstr 00 ', ' rstr 00', 'rstr 00 00', 'rstr -*1', 'rstr *4',
     'rstr 00*x', 'rstr 00*-1', 'wstr 00', 'open 14 x', 'open 14 18446744073709551616', 'next 1', 'wkex 00 - - 0 0 -',
@@ -175,7 +217,7 @@ BAD = [
 
 
 def main():
-    bench = sys.argv[1]
+    bench = sys.argv[1:]
     failed = []
 
     def held(what, have, want):
@@ -183,7 +225,7 @@ def main():
             failed.append(f'{what}: {have!r}, not {want!r}')
 
     count = 0
-    steps = [(lines, wants, str.startswith) for lines, wants in [*secrets(), *exchanges()]]
+    steps = [(lines, wants, str.startswith) for lines, wants in [*secrets(), *exchanges(), *captured()]]
     whole = [(lines, wants, str.__eq__) for lines, wants in lists()]
     for lines, wants, holds in steps + whole:
         status, answers, errors = run(bench, '\n'.join(lines) + '\n')

@@ -79,15 +79,21 @@ static void mpints(void)
     is(all(out, FILL, sizeof out), "5, an mpint: out as it was");
 }
 
-/* A body of 2^32 bytes is 4, one of a byte less is 5. Of the addresses behind both only the first page is ever touched. */
+/* A body of 2^32 bytes is 4, one of a byte less is 5. Of the addresses behind both only the first page is ever touched. 32 bits have no
+   others, and the lengths cross all the same: no bit of them is lost. */
+#if SIZE_MAX > 4294967295u
+#define LENT WIDE
+#else
+#define LENT 4096
+#endif
 static void longest_bodies(void)
 {
     uint8_t out[16];
     uint64_t most = WIDE - 1;
-    void *map = mmap(NULL, most + 1, PROT_READ | PROT_WRITE, MAP_PRIVATE | MAP_ANONYMOUS | MAP_NORESERVE, -1, 0);
+    void *map = mmap(NULL, LENT, PROT_READ | PROT_WRITE, MAP_PRIVATE | MAP_ANONYMOUS | MAP_NORESERVE, -1, 0);
     uint8_t *body = (uint8_t *)map;
     LEND(uint64_t, count);
-    is(map != MAP_FAILED, "4 GB of addresses for the longest body");
+    is(map != MAP_FAILED, "addresses for the longest body");
     if (map == MAP_FAILED) return;
     body[0] = 1;
     memset(out, FILL, sizeof out);
@@ -97,7 +103,7 @@ static void longest_bodies(void)
     is(castulfrisa_write_string(out, sizeof out, body, most, &count.told) == CASTULFRISA_SHORT_OUTPUT, "no 4, a string");
     is(castulfrisa_write_mpint(out, sizeof out, body, most, &count.told) == CASTULFRISA_SHORT_OUTPUT, "no 4, an mpint");
     is(all(out, FILL, sizeof out), "4: out as it was");
-    munmap(map, most + 1);
+    munmap(map, LENT);
 }
 
 /* ---- methods */

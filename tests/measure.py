@@ -1,56 +1,74 @@
 #!/usr/bin/env python3
-"""What the library costs: code, constants, stack and memory of a client, of a server and of both, and time against plain Rust.
+"""What the library costs: code, constants and stack of a client, of a server and of both, for each machine that it was built for; where the
+bytes go; a session's memory; and time, and instructions where valgrind is there to count them, against plain Rust.
 
-usage: measure.py LIBRARY TIMING      (the static library, and the program `timing` of host/differ)
+usage: measure.py TIMING SMALL      (the program `timing` of host/differ, with the library for speed and with the one for size)
 """
-import pathlib
 import re
+import shutil
 import subprocess
 import sys
 import tempfile
 
-ROOT = pathlib.Path(__file__).resolve().parent.parent
-ROLES = {'client': 1, 'server': 2, 'both': 3}
+sys.dont_write_bytecode = True
+from machines import MACHINES, ROLES, VARIANTS, Carried, table
+
+LARGEST = 12
+WORK = {'1': ('method 1', 10, 1000), '8': ('method 8', 10, 1000), 'choice': ('the choice that searches longest', 1, 1)}
 
 
-def built(folder, library, role):
-    program, linked = folder / 'roles', folder / 'map'
-    subprocess.run(['gcc', '-std=c11', '-Wall', '-Wextra', '-Werror', '-O2', '-ffunction-sections', f'-DROLE={role}', f'-I{ROOT}/include',
-                    f'{ROOT}/host/measure/roles.c', library, '-pthread', '-Wl,-z,now', '-Wl,--gc-sections', f'-Wl,-Map={linked}', '-o', program], check=True)
-    return program, linked.read_text()
+def largest(measured):
+    """The largest functions of both roles, for speed and for size side by side."""
+    yield f'| x86-64, both: the {LARGEST} largest for speed | bytes | the {LARGEST} largest for size | bytes |'
+    yield '|---|---|---|---|'
+    columns = [sorted(measured['x86-64', variant]['both'].functions.items(), key=lambda f: -f[1])[:LARGEST] for variant in VARIANTS]
+    for row in zip(*columns):
+        yield '| ' + ' | '.join(f'{name} | {size:,}' for name, size in row) + ' |'
 
 
-def carried(text):
-    """Bytes of .text and .rodata that the link took from the library, by its map."""
-    sizes = {'.text': 0, '.rodata': 0}
-    taken = text[text.index('Linker script and memory map'):]
-    for name, size, origin in re.findall(r'^ (\.\S+)\s+0x[0-9a-f]+\s+0x([0-9a-f]+) (\S+)$', taken, re.M):
-        for kind in sizes:
-            if name.startswith(kind) and 'libcastulfrisa' in origin:
-                sizes[kind] += int(size, 16)
-    return sizes['.text'], sizes['.rodata']
+def memory(said):
+    room, exchange, k, init, reply = map(int, re.search(r'^sizes (\d+) (\d+) (\d+) (\d+) (\d+)$', said, re.M).groups())
+    both = room + exchange + k
+    return (f'RAM of a session: room {room:,}; exchange {exchange}; K output {k}; output for INIT {init:,} (client) or REPLY {reply:,} (server); '
+            f'in all {both + init:,} for a client and {both + reply:,} for a server, beside payloads and stack.')
+
+
+def instructions(timing, side, what):
+    """Of one run, by callgrind: what more runs take beyond fewer, so that the program's start does not count."""
+    _, few, more = WORK[what]
+
+    def counted(times):
+        with tempfile.NamedTemporaryFile() as out:
+            command = ['valgrind', '--tool=callgrind', f'--callgrind-out-file={out.name}', timing, side, what, str(times)]
+            said = subprocess.run(command, capture_output=True, text=True, check=True).stderr
+        return int(re.search(r'Collected : (\d+)', said)[1])
+
+    return (counted(few + more) - counted(few)) // more
 
 
 def main():
-    library, timing = sys.argv[1:]
-    print('| | .text | .rodata | deepest stack | entry that goes deepest |')
-    print('|---|---|---|---|---|')
-    with tempfile.TemporaryDirectory() as folder:
-        for name, role in ROLES.items():
-            program, linked = built(pathlib.Path(folder), library, role)
-            text, rodata = carried(linked)
-            said = subprocess.run([program], capture_output=True, text=True, check=True).stdout
-            deepest = int(re.search(r'^deepest (\d+)', said, re.M)[1])
-            entry = max(re.findall(r'^stack (\S+) (\d+)', said, re.M), key=lambda e: int(e[1]))[0]
-            print(f'| {name} | {text:,} | {rodata:,} | {deepest:,} | {entry} |')
-    room, exchange, k, init, reply = map(int, re.search(r'^sizes (\d+) (\d+) (\d+) (\d+) (\d+)$', said, re.M).groups())
-    both = room + exchange + k
+    timings = dict(zip(VARIANTS, sys.argv[1:], strict=True))
+    machines = [m for m in MACHINES.values() if m.built()]
+    measured = {(m.name, v): {role: Carried(m, v, role) for role in ROLES} for m in machines for v in VARIANTS}
+    print('\n'.join(table(measured)))
+    if missing := [name for name in MACHINES if name not in {m.name for m in machines}]:
+        print(f'\nNot built: {", ".join(missing)} (make targets).')
     print()
-    print(f'RAM of a session: room {room:,}; exchange {exchange}; K output {k}; output for INIT {init:,} (client) or REPLY {reply:,} (server); '
-          f'in all {both + init:,} for a client and {both + reply:,} for a server, beside payloads and stack.')
+    print('\n'.join(largest(measured)))
     print()
-    sys.stdout.flush()
-    subprocess.run([timing], check=True)
+    print(memory(measured['x86-64', 'speed']['both'].said))
+    for variant, timing in timings.items():
+        print(f'\nTime, {variant}:', flush=True)
+        subprocess.run([timing], check=True)
+    print()
+    if shutil.which('valgrind') is None:
+        print('Instructions: not counted, valgrind is not installed.')
+        return 0
+    print('| instructions | ' + ' | '.join(VARIANTS) + ' | plain Rust |')
+    print('|---|---|---|---|')
+    for what, (name, _, _) in WORK.items():
+        counts = [instructions(timing, 'core', what) for timing in timings.values()] + [instructions(timings['speed'], 'plain', what)]
+        print(f'| {name} | ' + ' | '.join(f'{n:,}' for n in counts) + ' |', flush=True)
     return 0
 
 

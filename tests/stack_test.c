@@ -14,7 +14,7 @@
 
 /* ---- the stack */
 
-static uintptr_t top;                     /* where the frame ends that had the stack painted */
+static uintptr_t top;                     /* the upper end of what is looked at: where the frame ends that had the stack painted */
 static uint8_t left[DEPTH], wiped[DEPTH]; /* what a call left below that frame, and what the wiping left of it */
 static int failed;
 
@@ -24,7 +24,8 @@ static NOINLINE void paint(void)
     size_t i;
     for (i = 0; i < DEPTH; i++) below[i] = PAINT;
     top = (uintptr_t)__builtin_frame_address(0);
-    if ((uintptr_t)below > top - DEPTH) failed = 1; /* less than is looked at */
+    if (top < (uintptr_t)below + DEPTH) top = (uintptr_t)below + DEPTH; /* ARM's is below a frame's objects */
+    if ((uintptr_t)below > top - DEPTH) failed = 1;                     /* less than is looked at */
 }
 
 /* In its caller's own frame, and with no call: a frame of its own would lie on what is to be seen. */
@@ -44,8 +45,17 @@ static int piece_of(const uint8_t *at, const uint8_t *secret, size_t len)
 {
     size_t i;
     for (i = 0; i + PIECE <= len; i++)
-        if (memcmp(at, secret + i, PIECE) == 0) return 1;
+        if (at[0] == secret[i] && memcmp(at, secret + i, PIECE) == 0) return 1;
     return 0;
+}
+
+/* So many bytes of paint are no piece of a secret, and nearly all of the stack: an emulator takes long to compare them with each. */
+static int painted(const uint8_t *at)
+{
+    size_t i;
+    for (i = 0; i < PIECE; i++)
+        if (at[i] != PAINT) return 0;
+    return 1;
 }
 
 /* Copies of X or of the digest, whole or in part, and the bytes in them. */
@@ -54,7 +64,7 @@ static size_t copies(const uint8_t *stack, size_t *bytes)
     size_t i, count = 0, end = 0; /* of the copy that was seen last */
     *bytes = 0;
     for (i = 0; i + PIECE <= DEPTH; i++)
-        if (piece_of(stack + i, x, z.x_len) || piece_of(stack + i, digest, z.digest_len)) {
+        if (!painted(stack + i) && (piece_of(stack + i, x, z.x_len) || piece_of(stack + i, digest, z.digest_len))) {
             if (i >= end) {
                 count++;
                 end = i;

@@ -1,7 +1,10 @@
 //! timing: from the start through the secret step as server, all fields at their largest, on the compiled core and on the plain
 //! implementation in turns. Medians of 1,001, each of so many exchanges that the clock's own step does not show; rooms cleared first.
+//!
+//! timing core|plain METHOD|choice COUNT: does that alone, so often, and prints nothing, for a counter of instructions.
 use castulfrisa::{raw, EXCHANGE};
 use std::hint::black_box;
+use std::process::ExitCode;
 use std::time::Instant;
 
 const TURNS: usize = 1001;
@@ -101,7 +104,39 @@ fn choices() {
     println!("the choice that searches longest, {} bytes each: core {:.1} ms, plain Rust {:.1} ms, {:.2} times", client.len(), core, model, core / model);
 }
 
-fn main() {
+/// The work that the words name; false where they name none.
+fn counted(words: &[String]) -> bool {
+    let [side, what, count] = words else { return false };
+    let core = side == "core";
+    let Ok(count) = count.parse::<u32>() else { return false };
+    if !core && side != "plain" {
+        return false;
+    }
+    if what == "choice" {
+        let (client, server) = (crowded(b'c'), crowded(b's'));
+        for _ in 0..count {
+            let (client, server) = (black_box(&client), black_box(&server));
+            black_box(if core { raw::choose(client, server, &mut raw::Choice::default()) } else { plain::choose(client, server).number.into() });
+        }
+        return true;
+    }
+    let Some(method) = what.parse().ok().filter(|m| (1..=9).contains(m)) else { return false };
+    let (f, mut room) = (fed(method), vec![0; plain::ROOM]);
+    for _ in 0..count {
+        black_box(if core { on_core(black_box(&f), black_box(&mut room)) } else { on_plain(black_box(&f), black_box(&mut room)) });
+    }
+    true
+}
+
+fn main() -> ExitCode {
+    let words: Vec<String> = std::env::args().skip(1).collect();
+    if !words.is_empty() {
+        if counted(&words) {
+            return ExitCode::SUCCESS;
+        }
+        eprintln!("usage: timing [core|plain METHOD|choice COUNT]");
+        return ExitCode::from(2);
+    }
     choices();
     let (mut core_room, mut plain_room) = (vec![0; plain::ROOM], vec![0; plain::ROOM]);
     for method in [1, 8] {
@@ -117,4 +152,5 @@ fn main() {
         let (core, model) = (median(core), median(model));
         println!("method {}: {} bytes hashed; core {:.0} ns, plain Rust {:.0} ns, {:.2} times", method, count, core, model, core / model);
     }
+    ExitCode::SUCCESS
 }
