@@ -56,7 +56,5 @@ pub fn kem_of(method: u8, kem: u64) -> Kem
     if kem == 2 {
         return Kem::Done;
     }
-    let m = methods::method_of(method);
-    let form = m.k_form;
-    wrong_kem(form)
+    wrong_kem(methods::k_form(method))
 }

@@ -93,7 +93,7 @@ pub extern "C" fn castulfrisa_write_mpint(out: &mut [u8], bytes: &[u8], count: &
 pub extern "C" fn castulfrisa_method_number(name: &[u8]) -> u64
     ensures { λ n. ⌜ n ≡ numberOf (now (name .entry)) ⌝ }
 {
-    methods::number_of(name) as u64
+    method_names::number_of(name) as u64
 }
 
 // The name of a method. Told: its count.
@@ -214,7 +214,9 @@ pub extern "C" fn castulfrisa_start(
 ) -> u64
     ensures { λ n. ⌜ left n [] (now (ex .exit)) (now (room .exit)) [] ≡ lentStart (now (ex .entry)) role method (now (vc .entry)) (now (vs .entry)) (now (ic .entry)) (now (is .entry)) (now (room .entry)) ⌝ }
 {
-    lent::start(ex, role, method, vc, vs, ic, is, room)
+    let r = arguments::byte_of(role);
+    let m = arguments::byte_of(method);
+    lent_steps::start(ex, r, m, vc, vs, ic, is, room) as u64
 }
 
 // Client, own C. Told: INIT's count.
@@ -230,7 +232,7 @@ pub extern "C" fn castulfrisa_own_c(
         let q = ownC (now (c .entry)) (length (now (out .entry))) in
         ⌜ left n (now (count .exit) ∷ []) (now (ex .exit)) (now (room .exit)) (now (out .exit) ∷ []) ≡ lentCall (now (ex .entry)) (now (room .entry)) q (now (out .entry) ∷ []) ⌝ }
 {
-    lent::own_c(ex, room, c, out, count)
+    lent_client::own_c(ex, room, c, out, count) as u64
 }
 
 // Server, INIT read. Told: C's place.
@@ -243,7 +245,7 @@ pub extern "C" fn castulfrisa_read_init(
 ) -> u64
     ensures { λ n. ⌜ left n (now (place .exit)) (now (ex .exit)) (now (room .exit)) [] ≡ lentCall (now (ex .entry)) (now (room .entry)) (init (now (payload .entry))) [] ⌝ }
 {
-    lent::read_init(ex, room, payload, place)
+    lent_server::read_init(ex, room, payload, place) as u64
 }
 
 // Client, REPLY read. Told: the places of K_S, S and the signature.
@@ -256,7 +258,7 @@ pub extern "C" fn castulfrisa_read_reply(
 ) -> u64
     ensures { λ n. ⌜ left n (now (places .exit)) (now (ex .exit)) (now (room .exit)) [] ≡ lentCall (now (ex .entry)) (now (room .entry)) (reply (now (payload .entry))) [] ⌝ }
 {
-    lent::read_reply(ex, room, payload, places)
+    lent_client::read_reply(ex, room, payload, places) as u64
 }
 
 // Both roles, the secret. Told: the hash input's count.
@@ -277,7 +279,9 @@ pub extern "C" fn castulfrisa_take_secret(
         let q = secretStep (classicalOf given «x_count») (now (x .entry)) (kemOf (decoded (now (ex .entry)) .method) kem) (now (digest .entry)) (now (ks .entry)) (now (s .entry)) in
         ⌜ left n (now (count .exit) ∷ []) (now (ex .exit)) (now (room .exit)) [] ≡ lentCall (now (ex .entry)) (now (room .entry)) q [] ⌝ }
 {
-    lent::take_secret(ex, room, given, x_count, x, kem, digest, ks, s, count)
+    let cl = arguments::classical_of(given, x_count);
+    let km = arguments::kem_of(stored::byte_in(ex, stored::METHOD_AT), kem);
+    lent_steps::take_secret(ex, room, cl, x, km, digest, ks, s, count) as u64
 }
 
 // Server, the signature. Told: REPLY's count and K's.
@@ -294,7 +298,7 @@ pub extern "C" fn castulfrisa_sign(
         let q = signStep (now (signature .entry)) (length (now (out .entry))) (length (now («k_out» .entry))) in
         ⌜ left n (now (counts .exit)) (now (ex .exit)) (now (room .entry)) (now (out .exit) ∷ now («k_out» .exit) ∷ []) ≡ lentCall (now (ex .entry)) (now (room .entry)) q (now (out .entry) ∷ now («k_out» .entry) ∷ []) ⌝ }
 {
-    lent::sign(ex, room, signature, out, k_out, counts)
+    lent_server::sign(ex, room, signature, out, k_out, counts) as u64
 }
 
 // Client, the verdict. Told: K's count.
@@ -311,7 +315,9 @@ pub extern "C" fn castulfrisa_verdict(
         let q = verdictStep (isYes signature) (isYes «host_key») (length (now («k_out» .entry))) in
         ⌜ left n (now (count .exit) ∷ []) (now (ex .exit)) (now (room .exit)) (now («k_out» .exit) ∷ []) ≡ lentCall (now (ex .entry)) (now (room .entry)) q (now («k_out» .entry) ∷ []) ⌝ }
 {
-    lent::verdict(ex, room, signature, host_key, k_out, count)
+    let a = arguments::is_yes(signature);
+    let b = arguments::is_yes(host_key);
+    lent_client::verdict(ex, room, a, b, k_out, count) as u64
 }
 
 // ---- calls on an exchange that are no steps: they tell, and change nothing
@@ -329,7 +335,7 @@ pub extern "C" fn castulfrisa_init_c(
         let q = init (now (payload .entry)) in
         ⌜ (n ≡ byFit b (number (decoded b) (now (room .entry)) q) 1) × (now (place .exit) ≡ byFit b (placeOf (stepPart (decoded b) (now (room .entry)) q (now (payload .entry)) 0)) (zeros 2)) ⌝ }
 {
-    lent::init_part(ex, room, payload, 0, place)
+    lent_parts::init_part(ex, room, payload, 0, place) as u64
 }
 
 // The number that REPLY's step would answer, and the place of K_S.
@@ -345,7 +351,7 @@ pub extern "C" fn castulfrisa_reply_host_key(
         let q = reply (now (payload .entry)) in
         ⌜ (n ≡ byFit b (number (decoded b) (now (room .entry)) q) 1) × (now (place .exit) ≡ byFit b (placeOf (stepPart (decoded b) (now (room .entry)) q (now (payload .entry)) 0)) (zeros 2)) ⌝ }
 {
-    lent::reply_part(ex, room, payload, 0, place)
+    lent_parts::reply_part(ex, room, payload, 0, place) as u64
 }
 
 // Likewise, and the place of S.
@@ -361,7 +367,7 @@ pub extern "C" fn castulfrisa_reply_s(
         let q = reply (now (payload .entry)) in
         ⌜ (n ≡ byFit b (number (decoded b) (now (room .entry)) q) 1) × (now (place .exit) ≡ byFit b (placeOf (stepPart (decoded b) (now (room .entry)) q (now (payload .entry)) 1)) (zeros 2)) ⌝ }
 {
-    lent::reply_part(ex, room, payload, 1, place)
+    lent_parts::reply_part(ex, room, payload, 1, place) as u64
 }
 
 // Likewise, and the place of the signature.
@@ -377,7 +383,7 @@ pub extern "C" fn castulfrisa_reply_signature(
         let q = reply (now (payload .entry)) in
         ⌜ (n ≡ byFit b (number (decoded b) (now (room .entry)) q) 1) × (now (place .exit) ≡ byFit b (placeOf (stepPart (decoded b) (now (room .entry)) q (now (payload .entry)) 2)) (zeros 2)) ⌝ }
 {
-    lent::reply_part(ex, room, payload, 2, place)
+    lent_parts::reply_part(ex, room, payload, 2, place) as u64
 }
 
 // How far an exchange has come. Told: its stage, the number that ended it, its role and its method.
@@ -388,7 +394,7 @@ pub extern "C" fn castulfrisa_state(ex: &[u8], told: &mut [u64; 4]) -> u64
         let e = decoded b in
         ⌜ (n ≡ byFit b 0 1) × (now (told .exit) ≡ byFit b (stageNumber (e .stage) ∷ failNumber (e .stage) ∷ e .role ∷ e .method ∷ []) (zeros 4)) ⌝ }
 {
-    lent::state(ex, told)
+    lent_parts::state(ex, told) as u64
 }
 
 // ---- the host's own

@@ -20,7 +20,7 @@ pub fn common_method(client: &[u8], c: Cursor, server: &[u8], s: Cursor) -> u8
         }
         let place = n.name;
         let name = wire::part_of(client, place);
-        let method = methods::number_of(name);
+        let method = method_names::number_of(name);
         if method != 0 {
             let mut to = s;
             loop {

@@ -20,8 +20,9 @@ use Rattle.lent.specs.Lent.{tells, lentCall}
 use Rattle.demand.proofs.HandsOut.{followed-there}
 use Rattle.demand_host.specs.Told.{Told}
 use Rattle.demand_host.specs.HandedOut.{SecretHandsOut, SignHandsOut, VerdictHandsOut, HandedOut}
-use Rattle.demand_host.proofs.Kept.{Storable}
-use Rattle.demand_host.proofs.Links.{AsStep, as-step, found}
+use Rattle.lent.proofs.Kept.{Storable}
+use Rattle.lent.proofs.AsStep.{AsStep, as-step}
+use Rattle.demand_host.proofs.Links.{found}
 use Rattle.demand_host.proofs.Holds.{runs, as-defined}
 
 -- the bytes in the host's hands are those of an exchange that, with the room, follows the book

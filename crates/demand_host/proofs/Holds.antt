@@ -20,8 +20,9 @@ use Rattle.demand.proofs.Holds.{AsDefined, held-there}
 use Rattle.demand_host.specs.History.{History, no-call, own-c, read-init, read-reply, take-secret, give-sign, give-verdict}
 use Rattle.demand_host.specs.Told.{Told, start-then}
 use Rattle.demand_host.specs.Demand3.{HeldAtHost, Demand3}
-use Rattle.demand_host.proofs.Kept.{Storable, step-storable, start-storable}
-use Rattle.demand_host.proofs.Links.{as-step, as-start, found, method-kept, start-method, method-there}
+use Rattle.lent.proofs.Kept.{Storable, step-storable, start-storable}
+use Rattle.lent.proofs.AsStep.{as-step}
+use Rattle.demand_host.proofs.Links.{as-start, found, method-kept, start-method, method-there}
 
 -- a history from the bytes of x is the run of the definitions from x, and its bytes are those of the exchange that the run reaches
 pub record HostRun (m : ℕ) (x : Exchange) (room : List ℕ) (qs : List Call) (ns ex′ room′ : List ℕ) : Type 0 where

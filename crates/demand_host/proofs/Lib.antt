@@ -1,4 +1,3 @@
-pub mod Kept
 pub mod Links
 pub mod Holds
 pub mod HandsOut

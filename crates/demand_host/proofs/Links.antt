@@ -1,4 +1,4 @@
--- What one call of an export on an exchange's bytes is, by the step's definitions. Assumes nothing.
+-- What an accepted start made, and what a step keeps. Assumes nothing.
 use Prim.Native.Nat.{ℕ}
 use mathlib.Core.Path.{_≡_, refl, sym, ap, _∙_}
 use mathlib.Core.List.{List, []}
@@ -15,35 +15,8 @@ use Rattle.exchange.specs.declared.Exchange.{Exchange}
 use Rattle.stored.specs.Stored.{encoded, decoded, bySize}
 use Rattle.stored.proofs.StoredLaws.{size-taken}
 use Rattle.stored.proofs.RoundTrip.{decoded-encoded}
-use Rattle.lent.specs.Lent.{Left, left, tells, toldSize, writes, outputsAfter, stepLeft, untouched, lentCall, startLeft, lentStart}
-use Rattle.demand_host.proofs.Kept.{Storable, lent-is-step}
-
--- a call that answered n, told, and left these bytes, on the bytes of x
-pub record AsStep (x : Exchange) (room : List ℕ) (q : Call) (outs : List (List ℕ)) (n : ℕ) (told ex room′ : List ℕ) (outs′ : List (List ℕ)) : Type 0 where
-  pub number-is : n ≡ number x room q
-  pub told-is : told ≡ tells x room q
-  pub exchange-is : ex ≡ encoded (exchangeAfter x room q)
-  pub room-is : room′ ≡ roomAfter x room q
-  pub outputs-are : outs′ ≡ outputsAfter (number x room q) outs (writes x room q)
-
-pub as-step : (b : List ℕ) (x : Exchange) (room : List ℕ) (q : Call) (outs : List (List ℕ)) (n : ℕ) (told ex room′ : List ℕ) (outs′ : List (List ℕ))
-    → b ≡ encoded x → Storable x → left n told ex room′ outs′ ≡ lentCall b room q outs → AsStep x room q outs n told ex room′ outs′
-unfolding lentCall stepLeft
-as-step b x room q outs n told ex room′ outs′ e h l =
-    let k : left n told ex room′ outs′ ≡ stepLeft x room q outs =
-    l ∙ ap (λ (y : List ℕ). lentCall y room q outs) e ∙ lent-is-step (λ (y : Exchange). stepLeft y room q outs) (untouched (encoded x) room (toldSize q) outs) x h in
-    record {
-      number-is = ap (λ (y : Left). y .number) k;
-      told-is = ap (λ (y : Left). y .told) k;
-      exchange-is = ap (λ (y : Left). y .exchange) k;
-      room-is = ap (λ (y : Left). y .room) k;
-      outputs-are = ap (λ (y : Left). y .outputs) k;
-    }
-
--- the other way round: a call that did as the step does, did what the contract says
-pub as-called : (x : Exchange) (room : List ℕ) (q : Call) (outs : List (List ℕ)) → Storable x → stepLeft x room q outs ≡ lentCall (encoded x) room q outs
-unfolding lentCall
-as-called x room q outs h = sym (lent-is-step (λ (y : Exchange). stepLeft y room q outs) (untouched (encoded x) room (toldSize q) outs) x h)
+use Rattle.lent.specs.Lent.{Left, left, untouched, startLeft, lentStart}
+use Rattle.lent.proofs.Kept.{Storable}
 
 -- an accepted start made the exchange
 pub as-start : (b : List ℕ) (role m : ℕ) (vc vs ic is room : List ℕ) (n : ℕ) (ex room′ : List ℕ) → left n [] ex room′ [] ≡ lentStart b role m vc vs ic is room → n ≡ 0

@@ -24,12 +24,13 @@ use Rattle.exchange.proofs.Simulation.{sign-room}
 use Rattle.exchange.proofs.Completes.{completes}
 use Rattle.arguments.specs.Arguments.{isYes, classicalOf, kemOf}
 use Rattle.stored.specs.Stored.{encoded}
-use Rattle.lent.specs.Lent.{left, tells, stepLeft, lentCall, startLeft}
+use Rattle.lent.specs.Lent.{left, tells, lentCall, startLeft}
 use Rattle.demand_host.specs.History.{History, no-call, own-c, read-init, read-reply, take-secret, give-sign, give-verdict}
 use Rattle.demand_host.specs.Told.{Told, start-then}
 use Rattle.demand_host.specs.Completed.{Completed}
-use Rattle.demand_host.proofs.Kept.{Storable, step-storable, start-storable}
-use Rattle.demand_host.proofs.Links.{as-called, start-called, found, method-kept, start-method, method-there}
+use Rattle.lent.proofs.Kept.{Storable, step-storable, start-storable}
+use Rattle.lent.proofs.AsStep.{as-called}
+use Rattle.demand_host.proofs.Links.{start-called, found, method-kept, start-method, method-there}
 use Rattle.demand_host.proofs.Holds.{host-run}
 
 -- a run of the definitions from an exchange is a history from its bytes
@@ -89,7 +90,7 @@ module _ (l : Lft) (g : GName) where
   -- one call with what it is lent in hand, and then the rest of the run
   module _ (m : ℕ) (x : Exchange) (h : Storable x) (room : List ℕ) (qs : List Call) where
     own-c-then : (c out : List ℕ) → let q = ownC c (length out) in Reaches m (exchangeAfter x room q) (roomAfter x room q) qs → Reaches m x room (q ∷ qs)
-    unfolding lent one tells stepLeft
+    unfolding lent one tells
     own-c-then c out k =
         let q : Call = ownC c (length out) in
         own-c (l, (l, (l, (l, (l, tt))))) (lent (encoded x), (lent room, (lent c, (lent out, (one 0, tt))))) (number x room q)
@@ -97,7 +98,7 @@ module _ (l : Lft) (g : GName) where
         (as-called x room q (out ∷ []) h) k
 
     init-then : (p : List ℕ) → Reaches m (exchangeAfter x room (init p)) (roomAfter x room (init p)) qs → Reaches m x room (init p ∷ qs)
-    unfolding lent stepLeft
+    unfolding lent
     init-then p k =
         let q : Call = init p in
         read-init (l, (l, (l, (l, tt)))) (lent (encoded x), (lent room, (lent p, (lent (zeros 2), tt)))) (number x room q)
@@ -105,7 +106,7 @@ module _ (l : Lft) (g : GName) where
         (as-called x room q [] h) k
 
     reply-then : (p : List ℕ) → Reaches m (exchangeAfter x room (reply p)) (roomAfter x room (reply p)) qs → Reaches m x room (reply p ∷ qs)
-    unfolding lent stepLeft
+    unfolding lent
     reply-then p k =
         let q : Call = reply p in
         read-reply (l, (l, (l, (l, tt)))) (lent (encoded x), (lent room, (lent p, (lent (zeros 6), tt)))) (number x room q)
@@ -114,7 +115,7 @@ module _ (l : Lft) (g : GName) where
 
     secret-then : x .method ≡ m → (gv n : ℕ) (v : List ℕ) (km : ℕ) (d ks s : List ℕ) → let q = secret (classicalOf gv n) v (kemOf m km) d ks s in
         Reaches m (exchangeAfter x room q) (roomAfter x room q) qs → Reaches m x room (q ∷ qs)
-    unfolding lent one tells stepLeft
+    unfolding lent one tells
     secret-then j gv n v km d ks s k =
         let told : ℕ → Call = λ (i : ℕ). secret (classicalOf gv n) v (kemOf i km) d ks s in
         let q = told m in
@@ -125,7 +126,7 @@ module _ (l : Lft) (g : GName) where
         (as-called x room q [] h ∙ w) k
 
     sign-then : (sg out kOut : List ℕ) → let q = sign sg (length out) (length kOut) in Reaches m (exchangeAfter x room q) (roomAfter x room q) qs → Reaches m x room (q ∷ qs)
-    unfolding lent tells stepLeft
+    unfolding lent tells
     sign-then sg out kOut k =
         let q : Call = sign sg (length out) (length kOut) in
         let r = sign-room x room sg (length out) (length kOut) in
@@ -138,7 +139,7 @@ module _ (l : Lft) (g : GName) where
         r k)
 
     verdict-then : (u v : ℕ) (kOut : List ℕ) → let q = verdict (isYes u) (isYes v) (length kOut) in Reaches m (exchangeAfter x room q) (roomAfter x room q) qs → Reaches m x room (q ∷ qs)
-    unfolding lent one tells stepLeft
+    unfolding lent one tells
     verdict-then u v kOut k =
         let q : Call = verdict (isYes u) (isYes v) (length kOut) in
         give-verdict (l, (l, (l, (l, tt)))) (lent (encoded x), (lent room, (u, (v, (lent kOut, (one 0, tt)))))) (number x room q)

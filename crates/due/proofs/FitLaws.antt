@@ -1,13 +1,14 @@
 -- Laws of what is due, one for each answer that the functions give. Assumes nothing.
 use Prim.Native.Nat.{ℕ, _+_, _≤_, _<_}
-use mathlib.Core.Path.{_≡_, sym, ap, _∙_}
-use mathlib.Core.List.{List}
-use mathlib.Core.Bool.{true, false}
+use mathlib.Core.Path.{_≡_, refl, sym, ap, _∙_}
+use mathlib.Core.List.{List, []}
+use mathlib.Core.Bool.{Bool, true, false, _&&_}
 use native.Mathlib.Omega.{arith}
-use lib.ListN.{length}
+use lib.ListN.{length, getD, drop, length-drop}
 use lib.Dec.{leb}
 use borrow.Author.Tests.{le-leb, lt-leb, lt-ltb, le-ltb, eq-eqb, ne-eqb}
 use Rattle.limits.specs.Limits.{client, roomLeast, methodLast, server}
+use Rattle.limits.proofs.BoolLaws.{and-true}
 use Rattle.limits.proofs.RangeLaws.{within-is, within-low, within-high}
 use Rattle.wire.specs.Strings.{number32, numberAt}
 use Rattle.wire.proofs.CauseLaws.{if-holds, if-fails, unless-holds, unless-fails}
@@ -17,10 +18,13 @@ use Rattle.methods.specs.declared.KForm.{KForm}
 use Rattle.methods.specs.declared.KForm.the-variants.{Mpint}
 use Rattle.methods.specs.declared.Method.{Method}
 use Rattle.exchange.specs.Causes.{methodOk}
-use Rattle.exchange.specs.Record.{nextStep, clientNext, serverNext, hasK, lengthsFit, kBodyFits, kFits, due}
+use Rattle.exchange.specs.Record.{noLengths, nextStep, clientNext, serverNext, hasK, lengthsFit, kBodyFits, kFits, due}
 use Rattle.exchange.specs.Steps.{stepNumber}
 use Rattle.exchange.specs.declared.Stage.{Stage}
+use Rattle.exchange.specs.declared.Lengths.{Lengths}
 use Rattle.exchange.specs.declared.Exchange.{Exchange}
+use Rattle.stored.specs.Stored.{fits, lengthsIn, decoded, byFit, bySize}
+use Rattle.stored.proofs.StoredLaws.{size-taken, fits-known, fit-taken, fit-left}
 
 -- ---- nextStep
 
@@ -99,3 +103,51 @@ module _ (n : ℕ) (e : Exchange) (room fed : ℕ) where
     pub number-fed : roomLeast ≤ room → fed ≡ stepNumber n e room fed
     unfolding stepNumber
     number-fed h = sym (unless-holds _ 1 _ a ∙ if-fails _ 3 fed (le-ltb room roomLeast h))
+
+-- ---- on lent bytes
+
+-- role and method, as they are read
+pub role-read : (b : List ℕ) (r : ℕ) → r ≡ getD b 3 0 → r ≡ decoded b .role
+unfolding decoded
+role-read b r h = h
+
+pub method-read : (b : List ℕ) (m : ℕ) → m ≡ getD b 4 0 → m ≡ decoded b .method
+unfolding decoded
+method-read b m h = h
+
+module _ (b : List ℕ) (f : fits b ≡ true) where
+  -- lengths and K
+  pub lens-read : (l : Lengths) → l ≡ bySize b (lengthsIn b) noLengths → l ≡ decoded b .lens
+  unfolding decoded
+  lens-read l h = h ∙ sym (size-taken b noLengths (lengthsIn b) (fits-known b f .0))
+
+  pub k-read : (k : List ℕ) → k ≡ bySize b (drop 19 b) [] → k ≡ decoded b .k
+  unfolding decoded
+  k-read k h = h ∙ sym (size-taken b [] (drop 19 b) (fits-known b f .0))
+
+  pub k-size : (k : List ℕ) → k ≡ bySize b (drop 19 b) [] → 4 ≤ length k
+  k-size k h =
+      let n = fits-known b f .0 in
+      omega (arith, length-drop 19 b, ap length (h ∙ sym (size-taken b [] (drop 19 b) n)))
+
+  -- whether a step is due
+  pub due-on : (n : ℕ) (x : Bool) → x ≡ due n (decoded b) → x ≡ (fits b && due n (decoded b))
+  due-on n x h = rw f h
+
+  -- and its number
+  pub number-on : (n room fed r : ℕ) → r ≡ stepNumber n (decoded b) room fed → r ≡ byFit b (stepNumber n (decoded b) room fed) 1
+  number-on n room fed r h = h ∙ fit-taken b (stepNumber n (decoded b) room fed) 1 f
+
+-- on bytes that no exchange has it is not
+pub unfit-due : (b : List ℕ) (n : ℕ) → fits b ≡ false → false ≡ (fits b && due n (decoded b))
+unfit-due b n f = rw f
+
+pub not-due-on : (b : List ℕ) (n room fed : ℕ) → (fits b && due n (decoded b)) ≡ false → 1 ≡ byFit b (stepNumber n (decoded b) room fed) 1
+not-due-on b n room fed h = by-fit (fits b) refl h
+  where
+    by-fit : (t : Bool) → fits b ≡ t → (t && due n (decoded b)) ≡ false → 1 ≡ byFit b (stepNumber n (decoded b) room fed) 1
+    by-fit true f h = number-on b f n room fed 1 (number-not-due n (decoded b) room fed h)
+    by-fit false f h = fit-left b (stepNumber n (decoded b) room fed) 1 f
+
+pub due-fits : (b : List ℕ) (n : ℕ) → (fits b && due n (decoded b)) ≡ true → (fits b ≡ true) × (due n (decoded b) ≡ true)
+due-fits b n h = and-true (fits b) (due n (decoded b)) h

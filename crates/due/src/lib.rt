@@ -1,14 +1,17 @@
-// Whether a step is due on an exchange's record, and a step's number: the record's fit comes first, then the room, then what was fed.
-use exchange::Exchange;
+// Whether a step is due on an exchange in lent bytes, and a step's number: that the bytes are one's and fit comes first, then the room, then
+// what was fed.
 use exchange::Lengths;
 use exchange::Stage;
 use methods::KForm;
-use methods::Method;
 ghost use mathlib.Core.Path.{_≡_};
 ghost use Prim.Native.Nat.{_≤_};
 ghost use lib.ListN.{length};
-ghost use Rattle.exchange.specs.Record.{nextStep, hasC, hasS, hasK, cFits, sFits, lengthsFit, kFits, due};
+ghost use mathlib.Core.Bool.{true, _&&_};
+ghost use Rattle.methods.specs.Rows.{rowOf};
+ghost use Rattle.methods.specs.declared.KForm.the-variants.{Mpint};
+ghost use Rattle.exchange.specs.Record.{nextStep, hasC, hasS, hasK, cFits, sFits, lengthsFit, kBodyFits, kFits, due};
 ghost use Rattle.exchange.specs.Steps.{stepNumber};
+ghost use Rattle.stored.specs.Stored.{fits, LengthBytes, decoded, byFit};
 
 // The step that comes next on a record, 0 for none.
 fn next_step(role: u8, stage: Stage) -> u8
@@ -85,8 +88,8 @@ fn has_k(stage: Stage) -> bool
 }
 
 // Whether the recorded lengths fit a stage.
-fn lengths_fit(m: Method, stage: Stage, l: Lengths) -> bool
-    ensures { λ r. ⌜ r ≡ lengthsFit m stage l ⌝ }
+fn lengths_fit(method: u8, stage: Stage, l: Lengths) -> bool
+    ensures { λ r. ⌜ r ≡ lengthsFit (rowOf method) stage l ⌝ }
 {
     if !limits::in_range(1, limits::VERSION_MOST, l.vc) {
         return false;
@@ -100,17 +103,17 @@ fn lengths_fit(m: Method, stage: Stage, l: Lengths) -> bool
     if !limits::in_range(1, limits::KEXINIT_MOST, l.is) {
         return false;
     }
-    if !c_fits(m, stage, l) {
+    if !c_fits(method, stage, l) {
         return false;
     }
-    s_fits(m, stage, l)
+    s_fits(method, stage, l)
 }
 
 // Whether the recorded length of C fits a stage.
-fn c_fits(m: Method, stage: Stage, l: Lengths) -> bool
-    ensures { λ r. ⌜ r ≡ cFits m stage l ⌝ }
+fn c_fits(method: u8, stage: Stage, l: Lengths) -> bool
+    ensures { λ r. ⌜ r ≡ cFits (rowOf method) stage l ⌝ }
 {
-    let shape = m.c;
+    let shape = methods::c_shape(method);
     if has_c(stage) {
         methods::length_fits(shape, l.c)
     } else {
@@ -119,10 +122,10 @@ fn c_fits(m: Method, stage: Stage, l: Lengths) -> bool
 }
 
 // Whether the recorded lengths of K_S and S fit a stage.
-fn s_fits(m: Method, stage: Stage, l: Lengths) -> bool
-    ensures { λ r. ⌜ r ≡ sFits m stage l ⌝ }
+fn s_fits(method: u8, stage: Stage, l: Lengths) -> bool
+    ensures { λ r. ⌜ r ≡ sFits (rowOf method) stage l ⌝ }
 {
-    let shape = m.s;
+    let shape = methods::s_shape(method);
     if has_s(stage) {
         if limits::in_range(1, limits::BLOB_MOST, l.ks) {
             return methods::length_fits(shape, l.s);
@@ -136,59 +139,67 @@ fn s_fits(m: Method, stage: Stage, l: Lengths) -> bool
 }
 
 // Whether K's recorded length fits a stage.
-fn k_fits(m: Method, stage: Stage, k: &[u8]) -> bool
+fn k_fits(method: u8, stage: Stage, k: &[u8]) -> bool
     requires { ⌜ 4 ≤ length (now k) ⌝ }
-    ensures { λ r. ⌜ r ≡ kFits m stage (now (k .entry)) ⌝ }
+    ensures { λ r. ⌜ r ≡ kFits (rowOf method) stage (now (k .entry)) ⌝ }
 {
     if !has_k(stage) {
         return true;
     }
     let n = wire::u32_at(k, 0) as usize;
-    let form = m.k_form;
+    let form = methods::k_form(method);
     match form {
-        KForm::Mpint => {
-            if m.x_len < n {
-                if m.x_len + 1 < n {
-                    return false;
-                }
-            }
-            if m.zero_check {
-                return 1 <= n;
-            }
-            true
-        }
-        KForm::Digest => n == m.digest_len,
+        KForm::Mpint => mpint_fits(method, n),
+        KForm::Digest => n == methods::digest_len(method),
     }
 }
 
-// Whether a step is due on a record.
-pub fn is_due(n: u8, e: Exchange) -> bool
-    ensures { λ r. ⌜ r ≡ due n e ⌝ }
+// Whether an mpint K may have n bytes behind its length.
+fn mpint_fits(method: u8, n: usize) -> bool
+    ensures { λ r. ⌜ r ≡ kBodyFits Mpint (rowOf method) n ⌝ }
 {
-    let stage = e.stage;
-    if next_step(e.role, stage) != n {
+    let most = methods::x_len(method);
+    if most < n {
+        if most + 1 < n {
+            return false;
+        }
+    }
+    if methods::zero_check(method) {
+        return 1 <= n;
+    }
+    true
+}
+
+// Whether a step is due on an exchange in lent bytes. Where it is, its lengths have been read, and so are bytes.
+fn is_due(n: u8, b: &[u8]) -> bool
+    ensures { λ r. ⌜ (r ≡ (fits (now (b .entry)) && due n (decoded (now (b .entry))))) × (r ≡ true → LengthBytes (now (b .entry))) ⌝ }
+{
+    if !stored::fits(b) {
         return false;
     }
-    if e.method < 1 {
+    let stage = stored::stage_in(b);
+    if next_step(stored::byte_in(b, stored::ROLE_AT), stage) != n {
         return false;
     }
-    if limits::METHOD_LAST < e.method {
+    let method = stored::byte_in(b, stored::METHOD_AT);
+    if method < 1 {
         return false;
     }
-    let m = methods::method_of(e.method);
-    let l = e.lens;
-    if !lengths_fit(m, stage, l) {
+    if limits::METHOD_LAST < method {
         return false;
     }
-    let k = e.k;
-    k_fits(m, stage, &k)
+    let l = stored::lengths_in(b);
+    if !lengths_fit(method, stage, l) {
+        return false;
+    }
+    k_fits(method, stage, stored::k_in(b))
 }
 
 // A step's number: 1 where it is not due, 3 where the room is too short, then the first cause in what it was fed.
-pub fn step_number(n: u8, e: Exchange, room: usize, fed: u8) -> u8
-    ensures { λ r. ⌜ r ≡ stepNumber n e room fed ⌝ }
+pub fn step_number(n: u8, b: &[u8], room: usize, fed: u8) -> u8
+    ensures { λ r. ⌜ (r ≡ byFit (now (b .entry)) (stepNumber n (decoded (now (b .entry))) room fed) 1) × (r ≡ 0 → LengthBytes (now (b .entry))) ⌝ }
 {
-    if !is_due(n, e) {
+    if !is_due(n, b) {
         return 1;
     }
     if room < limits::ROOM_LEAST {

@@ -1,11 +1,9 @@
 -- The causes in what a start or a step is handed: a law for each `return`. Assumes nothing.
-use Prim.Native.Nat.{ℕ, _+_, _≤_, _<_}
+use Prim.Native.Nat.{ℕ, _≤_, _<_}
 use mathlib.Core.Path.{_≡_, sym, _∙_}
 use mathlib.Core.List.{List}
-use mathlib.Core.Bool.{Bool, true, false, not, _&&_}
-use native.Mathlib.Numerals.{add-one}
-use lib.ListN.{length, getD, drop}
-use lib.Seq.{drop-cons}
+use mathlib.Core.Bool.{Bool, true, false, _&&_}
+use lib.ListN.{length, getD}
 use lib.Dec.{ltb, eqb}
 use borrow.Author.Tests.{lt-ltb, le-ltb}
 use Rattle.limits.specs.Limits.{versionMost, kexinitMost, kSize, roomLeast, initLeast, replyLeast, methodLast, client, server}
@@ -17,10 +15,6 @@ use Rattle.methods.specs.Form.{formed}
 use Rattle.exchange.specs.Causes.{plain, versionOk, kexinitOk, blobOk, methodOk, roleOk, startCause, ownCCause, signCause, verdictCause}
 
 -- ---- versionOk
-
-pub plain-at : (v : List ℕ) (i : ℕ) → i < length v
-    → plain (drop i v) ≡ (not (eqb (getD v i 0) 0) && not (eqb (getD v i 0) 10) && not (eqb (getD v i 0) 13) && plain (drop (i + 1) v))
-plain-at v i h = rw (drop-cons v i 0 h, add-one)
 
 module _ (v : List ℕ) where
   pub version-empty : length v < 1 → false ≡ versionOk v

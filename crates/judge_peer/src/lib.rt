@@ -20,8 +20,7 @@ pub fn init_cause(method: u8, payload: &[u8]) -> u8
     if n != 0 {
         return n;
     }
-    let m = methods::method_of(method);
-    let shape = m.c;
+    let shape = methods::c_shape(method);
     let c = wire::string_part(payload, 1, 0);
     let value = wire::part_of(payload, c);
     if !methods::length_fits(shape, value.len()) {
@@ -41,8 +40,7 @@ pub fn reply_cause(method: u8, payload: &[u8]) -> u8
     if n != 0 {
         return n;
     }
-    let m = methods::method_of(method);
-    let shape = m.s;
+    let shape = methods::s_shape(method);
     let k = wire::string_part(payload, 1, 0);
     let host_key = wire::part_of(payload, k);
     if !limits::in_range(1, limits::BLOB_MOST, host_key.len()) {

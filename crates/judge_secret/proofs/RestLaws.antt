@@ -64,10 +64,10 @@ module _ (role : ℕ) (r : Method) (cl : Classical) (kem : Kem) (d ks s : List �
         unfolding restOk
         rest-s h = rw (a, eq-eqb (length d) (digestFor cl kem (r .«digest_len»)) b, eq-eqb role server c, h)
 
--- the rest, as it was judged on the row that `method_of` gave
-pub rest-of-row : (role m : ℕ) (w : Method) (cl cl′ : Classical) (kem : Kem) (d ks s : List ℕ) (t : Bool)
-    → t ≡ restOk role w cl′ kem d ks s → w ≡ rowOf m → cl ≡ cl′ → t ≡ restOk role (rowOf m) cl kem d ks s
-rest-of-row role m w cl cl′ kem d ks s t e f g = e ∙ (λ i. restOk role (f i) (sym g i) kem d ks s)
+-- the rest, as it was judged on an outcome that a test told
+pub rest-told : (role m : ℕ) (cl cl′ : Classical) (kem : Kem) (d ks s : List ℕ) (t : Bool)
+    → t ≡ restOk role (rowOf m) cl′ kem d ks s → cl ≡ cl′ → t ≡ restOk role (rowOf m) cl kem d ks s
+rest-told role m cl cl′ kem d ks s t e g = e ∙ (λ i. restOk role (rowOf m) (sym g i) kem d ks s)
 
 -- ---- secretCause
 

@@ -1,9 +1,9 @@
 // Document 01's causes in what the secret step is handed: the primitives' outcomes, X, the digest, a server's K_S and S.
 use exchange::Classical;
 use exchange::Kem;
-use methods::Method;
 ghost use mathlib.Core.Path.{_≡_};
 ghost use Rattle.wire.specs.Causes.{causeUnless};
+ghost use Rattle.methods.specs.Rows.{rowOf};
 ghost use Rattle.exchange.specs.Causes.{present, digestFor, restOk, secretCause};
 
 // Whether a KEM's outcome is there.
@@ -32,14 +32,21 @@ fn digest_for(cl: Classical, kem: Kem, len: usize) -> usize
 }
 
 // Whether what the secret step is handed beside X is right: the KEM's presence, the digest's length, a server's K_S and S.
-fn rest_ok(role: u8, m: Method, cl: Classical, kem: Kem, digest: &[u8], ks: &[u8], s: &[u8]) -> bool
-    ensures { λ r. ⌜ r ≡ restOk role m cl kem (now (digest .entry)) (now (ks .entry)) (now (s .entry)) ⌝ }
+fn rest_ok(
+    role: u8,
+    method: u8,
+    cl: Classical,
+    kem: Kem,
+    digest: &[u8],
+    ks: &[u8],
+    s: &[u8],
+) -> bool
+    ensures { λ r. ⌜ r ≡ restOk role (rowOf method) cl kem (now (digest .entry)) (now (ks .entry)) (now (s .entry)) ⌝ }
 {
-    let form = m.k_form;
-    if methods::is_hybrid(form) != is_present(kem) {
+    if methods::is_hybrid(methods::k_form(method)) != is_present(kem) {
         return false;
     }
-    if digest.len() != digest_for(cl, kem, m.digest_len) {
+    if digest.len() != digest_for(cl, kem, methods::digest_len(method)) {
         return false;
     }
     if role != limits::SERVER {
@@ -48,23 +55,22 @@ fn rest_ok(role: u8, m: Method, cl: Classical, kem: Kem, digest: &[u8], ks: &[u8
     if !limits::in_range(1, limits::BLOB_MOST, ks.len()) {
         return false;
     }
-    let shape = m.s;
-    methods::has_form(shape, s)
+    methods::has_form(methods::s_shape(method), s)
 }
 
 // The refusal for a failed classical primitive: 4 where the rest is wrong, else 16.
 fn failed_cause(
     role: u8,
-    m: Method,
+    method: u8,
     cl: Classical,
     kem: Kem,
     digest: &[u8],
     ks: &[u8],
     s: &[u8],
 ) -> u8
-    ensures { λ r. ⌜ r ≡ causeUnless (restOk role m cl kem (now (digest .entry)) (now (ks .entry)) (now (s .entry))) 4 16 ⌝ }
+    ensures { λ r. ⌜ r ≡ causeUnless (restOk role (rowOf method) cl kem (now (digest .entry)) (now (ks .entry)) (now (s .entry))) 4 16 ⌝ }
 {
-    if rest_ok(role, m, cl, kem, digest, ks, s) {
+    if rest_ok(role, method, cl, kem, digest, ks, s) {
         16
     } else {
         4
@@ -84,20 +90,20 @@ pub fn secret_cause(
 ) -> u8
     ensures { λ r. ⌜ r ≡ secretCause role method cl (now (x .entry)) kem (now (digest .entry)) (now (ks .entry)) (now (s .entry)) ⌝ }
 {
-    let m = methods::method_of(method);
     let Classical::Given(n) = cl else {
-        return failed_cause(role, m, cl, kem, digest, ks, s);
+        return failed_cause(role, method, cl, kem, digest, ks, s);
     };
-    if n != m.x_len {
+    let len = methods::x_len(method);
+    if n != len {
         return 4;
     }
-    if x.len() != m.x_len {
+    if x.len() != len {
         return 4;
     }
-    if !rest_ok(role, m, cl, kem, digest, ks, s) {
+    if !rest_ok(role, method, cl, kem, digest, ks, s) {
         return 4;
     }
-    if m.zero_check {
+    if methods::zero_check(method) {
         if secret::leading_zeros(x) == x.len() {
             return 16;
         }

@@ -1,14 +1,17 @@
 -- What a call on an exchange in lent bytes answers and leaves, by the definitions of the step by value. Assumes nothing.
 use Prim.Native.Nat.{ℕ}
 use mathlib.Core.List.{List, [], _∷_, _++_}
-use lib.ListN.{length}
+use lib.ListN.{length, drop}
 use Rattle.buffers.specs.Bytes.{zeros}
 use Rattle.wire.specs.declared.Part.{Part}
 use Rattle.messages.specs.Messages.{initBytes}
-use Rattle.exchange.specs.Steps.{Call, ownC, init, reply, secret, sign, verdict, number, exchangeAfter, roomAfter, replyOf, answered, outputAfter, stepPart, started, startedRoom}
+use Rattle.exchange.specs.Steps.{Call, ownC, init, reply, secret, sign, verdict, number, taken, roomAfter, replyOf, answered, outputAfter, stepPart, started, startedRoom}
+use Rattle.exchange.specs.Numbers.{kind, byKind}
+use Rattle.exchange.specs.Record.{noLengths, ended}
+use Rattle.exchange.specs.declared.Lengths.{Lengths}
 use Rattle.exchange.specs.declared.Exchange.{Exchange}
 use Rattle.exchange.specs.declared.Step.{Step}
-use Rattle.stored.specs.Stored.{encoded, decoded, byFit, bySize}
+use Rattle.stored.specs.Stored.{encoded, lengthsIn, decoded, byFit, bySize}
 
 -- the number; what goes through lent numbers; and the lent bytes as they are left: the exchange's, the room, the outputs
 pub record Left : Type 0 where
@@ -66,12 +69,17 @@ outputsAfter n (out ∷ outs) (b ∷ bs) = outputAfter n out b ∷ outputsAfter 
 
 -- ---- a call
 
--- on an exchange's bytes: all as the step by value has it, the exchange after it encoded
-unfoldable pub stepLeft : Exchange → List ℕ → Call → List (List ℕ) → Left
-stepLeft e room q outs = record {
+-- the bytes of an exchange after it: those of the exchange with the step taken; as they were on a refusal; those of an ended exchange
+-- on a peer's fault
+unfoldable pub bytesAfter : List ℕ → Exchange → List ℕ → Call → List ℕ
+bytesAfter b e room q = byKind (kind (number e room q)) (encoded (taken e q)) b (encoded (ended (number e room q) (e .role) (e .method)))
+
+-- on an exchange's bytes: all as the step by value has it
+unfoldable pub stepLeft : List ℕ → Exchange → List ℕ → Call → List (List ℕ) → Left
+stepLeft b e room q outs = record {
   number = number e room q;
   told = tells e room q;
-  exchange = encoded (exchangeAfter e room q);
+  exchange = bytesAfter b e room q;
   room = roomAfter e room q;
   outputs = outputsAfter (number e room q) outs (writes e room q);
 }
@@ -81,7 +89,7 @@ abbrev pub untouched : List ℕ → List ℕ → ℕ → List (List ℕ) → Lef
 untouched b room told outs = left 1 (zeros told) b room outs
 
 unfoldable pub lentCall : List ℕ → List ℕ → Call → List (List ℕ) → Left
-lentCall b room q outs = byFit b (stepLeft (decoded b) room q outs) (untouched b room (toldSize q) outs)
+lentCall b room q outs = byFit b (stepLeft b (decoded b) room q outs) (untouched b room (toldSize q) outs)
 
 -- ---- the start: in as many bytes as an exchange has, whatever they hold
 
@@ -91,3 +99,16 @@ startLeft s room = left (s .number) [] (encoded (s .exchange)) room []
 unfoldable pub lentStart : List ℕ → ℕ → ℕ → List ℕ → List ℕ → List ℕ → List ℕ → List ℕ → Left
 lentStart b role m vc vs ic is room =
     bySize b (startLeft (started role m vc vs ic is (length room)) (startedRoom role m vc vs ic is room)) (untouched b room 0 [])
+
+-- ---- what the layer below reads and leaves
+
+-- lengths and K in bytes of an exchange's size; none in others
+abbrev pub lengthsOf : List ℕ → Lengths
+lengthsOf b = bySize b (lengthsIn b) noLengths
+
+abbrev pub kOf : List ℕ → List ℕ
+kOf b = bySize b (drop 19 b) []
+
+-- the bytes after a refusal, by its number alone
+abbrev pub refusedBytes : ℕ → List ℕ → List ℕ
+refusedBytes n b = byKind (kind n) b b (bySize b (encoded (ended n (decoded b .role) (decoded b .method))) b)

@@ -4,20 +4,26 @@ use mathlib.Core.Path.{_≡_, refl, sym, ap, _∙_}
 use mathlib.Core.List.{List, [], _∷_}
 use mathlib.Core.Bool.{Bool, true, false, cond, _&&_}
 use native.Mathlib.Omega.{arith}
-use lib.ListN.{length, getD, take, drop}
-use lib.Dec.{leb, eqb}
-use borrow.Author.Tests.{eq-eqb, ne-eqb, le-leb, lt-leb, leb-true, leb-false}
-use Rattle.limits.specs.Limits.{stringMost, listCount}
-use Rattle.wire.specs.Causes.{causeUnless}
-use Rattle.wire.specs.Parts.{part, inside, bytesAt, nothing}
-use Rattle.wire.proofs.CauseLaws.{unless-holds, unless-fails}
+use lib.ListN.{length, getD, set, take, drop}
+use lib.Dec.{leb, ltb, eqb}
+use borrow.Author.Tests.{eq-eqb, ne-eqb, le-leb, lt-leb, leb-true, leb-false, lt-ltb, le-ltb}
+use Rattle.limits.specs.Limits.{stringMost, listCount, cookieSize, kexinitMost}
+use Rattle.limits.specs.Every.{every}
+use Rattle.limits.proofs.BoolLaws.{both}
+use Rattle.buffers.specs.Bytes.{onto, laid}
+use Rattle.wire.specs.Causes.{causeIf}
+use Rattle.wire.specs.Parts.{part, inside, bytesAt}
+use Rattle.wire.specs.Strings.{bytes32, strings}
+use Rattle.wire.proofs.CauseLaws.{if-holds, if-fails, unless-holds, unless-fails}
 use Rattle.wire.proofs.PartLaws.{inside-fits, inside-past}
 use Rattle.names.specs.Names.{goodList}
 use Rattle.writers.specs.Writers.{wrote, leaves}
-use Rattle.writers.specs.declared.Written.{Written}
-use Rattle.writers.proofs.WriterLaws.{told-refused}
-use Rattle.proposal.specs.Proposal.{Kexinit, kexinit, writeCause}
-use Rattle.lists.specs.Lists.{stands, listAt, goodAt, badAt, firstBad, proposed, tableOk, tableCause}
+use Rattle.writers.proofs.WriterLaws.{told-refused, told-done}
+use Rattle.arguments.specs.Arguments.{isYes}
+use Rattle.proposal.specs.Proposal.{kexinit, writeCause}
+use Rattle.proposal.proofs.WriterLaws.{length-kexinit, write-cookie, laid-length, stored-length, message-laid}
+use Rattle.lists.specs.Lists.{listAt, listsAt, goodAt, badAt, firstBad, proposed, tableOk, tableCause}
+use Rattle.lists.proofs.PutLaws.{laid-nil, all-good, all-length}
 
 module _ (s : List ℕ) (from to : ℕ) where
   -- a list that ends ahead of its beginning, or behind the buffer, is none
@@ -75,45 +81,106 @@ third-false true true c e = e
 third-false true false c e = refl
 third-false false b c e = refl
 
-module _ (size : ℕ) (cookie s ends : List ℕ) (follows reserved : ℕ) where
-  pub list-bad : ¬ (firstBad s ends ≡ 0) → tableCause size cookie s ends follows reserved ≡ 4
+-- what write_lists owes: its number, what it tells, and the output that it leaves
+abbrev Answered : List ℕ → List ℕ → List ℕ → ℕ → ℕ → List ℕ → ℕ → List ℕ → List ℕ → Type 0
+Answered cookie s ends follows reserved out n told after =
+    (n ≡ tableCause (length out) cookie s ends follows reserved)
+    × (told ≡ wrote (tableCause (length out) cookie s ends follows reserved) (kexinit (proposed cookie s ends follows reserved)) .count ∷ firstBad s ends ∷ [])
+    × (after ≡ leaves (tableCause (length out) cookie s ends follows reserved) (kexinit (proposed cookie s ends follows reserved)) out)
+
+module _ (cookie s ends : List ℕ) (follows reserved : ℕ) (out : List ℕ) (bad : ℕ) (f : bad ≡ firstBad s ends) where
+  -- no count, and which list is bad
+  refused : (n : ℕ) → 0 < n → tableCause (length out) cookie s ends follows reserved ≡ n → Answered cookie s ends follows reserved out n (0 ∷ bad ∷ []) out
+  refused n h e =
+      let t = told-refused (tableCause (length out) cookie s ends follows reserved) (kexinit (proposed cookie s ends follows reserved)) out n h e in
+      (t .0, (λ i. t .1 i ∷ f i ∷ []), t .2)
+
+  pub list-bad : ¬ (bad ≡ 0) → Answered cookie s ends follows reserved out 4 (0 ∷ bad ∷ []) out
   unfolding tableCause tableOk
-  list-bad h = unless-fails _ 4 _ (rw (ne-eqb (firstBad s ends) 0 h))
+  list-bad h = refused 4 (omega arith) (unless-fails _ 4 _ (rw (ne-eqb (firstBad s ends) 0 (λ q. h (f ∙ q)))))
 
-  pub bytes-behind : ¬ (getD ends 9 0 ≡ length s) → tableCause size cookie s ends follows reserved ≡ 4
+  pub bytes-behind : ¬ (getD ends 9 0 ≡ length s) → Answered cookie s ends follows reserved out 4 (0 ∷ bad ∷ []) out
   unfolding tableCause tableOk
-  bytes-behind h = unless-fails _ 4 _ (second-false (eqb (firstBad s ends) 0) _ _ (ne-eqb (getD ends 9 0) (length s) h))
+  bytes-behind h = refused 4 (omega arith) (unless-fails _ 4 _ (second-false (eqb (firstBad s ends) 0) _ _ (ne-eqb (getD ends 9 0) (length s) h)))
 
-  pub reserved-wide : stringMost < reserved → tableCause size cookie s ends follows reserved ≡ 4
+  pub reserved-wide : stringMost < reserved → Answered cookie s ends follows reserved out 4 (0 ∷ bad ∷ []) out
   unfolding tableCause tableOk
-  reserved-wide h = unless-fails _ 4 _ (third-false (eqb (firstBad s ends) 0) (eqb (getD ends 9 0) (length s)) _ (lt-leb reserved stringMost h))
+  reserved-wide h =
+      refused 4 (omega arith) (unless-fails _ 4 _ (third-false (eqb (firstBad s ends) 0) (eqb (getD ends 9 0) (length s)) _ (lt-leb reserved stringMost h)))
 
-  pub table-good : firstBad s ends ≡ 0 → getD ends 9 0 ≡ length s → reserved ≤ stringMost
-      → tableCause size cookie s ends follows reserved ≡ writeCause size (proposed cookie s ends follows reserved)
-  unfolding tableCause tableOk
-  table-good f g h = unless-holds _ 4 _ (rw (eq-eqb (firstBad s ends) 0 f, eq-eqb (getD ends 9 0) (length s) g, le-leb reserved stringMost h))
+  module _ (z : bad ≡ 0) (g : getD ends 9 0 ≡ length s) (h : reserved ≤ stringMost) where
+    table-good : tableCause (length out) cookie s ends follows reserved ≡ writeCause (length out) (proposed cookie s ends follows reserved)
+    unfolding tableCause tableOk
+    table-good = unless-holds _ 4 _ (rw (eq-eqb (firstBad s ends) 0 (sym f ∙ z), eq-eqb (getD ends 9 0) (length s) g, le-leb reserved stringMost h))
 
--- refused: 4, no count, and which list is bad
-pub table-refused : (size : ℕ) (cookie s ends out : List ℕ) (follows reserved bad : ℕ) → bad ≡ firstBad s ends → tableCause size cookie s ends follows reserved ≡ 4
-    → (4 ≡ tableCause size cookie s ends follows reserved)
-    × (0 ∷ bad ∷ [] ≡ wrote (tableCause size cookie s ends follows reserved) (kexinit (proposed cookie s ends follows reserved)) .count ∷ firstBad s ends ∷ [])
-    × (out ≡ leaves (tableCause size cookie s ends follows reserved) (kexinit (proposed cookie s ends follows reserved)) out)
-table-refused size cookie s ends out follows reserved bad b e =
-    let t = told-refused (tableCause size cookie s ends follows reserved) (kexinit (proposed cookie s ends follows reserved)) out 4 (omega arith) e in
-    (t .0, (λ i. t .1 i ∷ b i ∷ []), t .2)
+    pub cookie-wrong : ¬ (length cookie ≡ cookieSize) → Answered cookie s ends follows reserved out 4 (0 ∷ bad ∷ []) out
+    unfolding proposed
+    cookie-wrong e = refused 4 (omega arith) (table-good ∙ write-cookie (proposed cookie s ends follows reserved) (length out) e)
 
--- a good table: as the writer of ten lists has it
-pub table-written : (cookie s ends out left : List ℕ) (follows reserved : ℕ) (w : Written) (k : Kexinit)
-    → k ≡ proposed cookie s ends follows reserved → w ≡ wrote (writeCause (length out) k) (kexinit k) → left ≡ leaves (writeCause (length out) k) (kexinit k) out
-    → firstBad s ends ≡ 0 → getD ends 9 0 ≡ length s → reserved ≤ stringMost
-    → (w .number ≡ tableCause (length out) cookie s ends follows reserved)
-    × (w .count ∷ 0 ∷ [] ≡ wrote (tableCause (length out) cookie s ends follows reserved) (kexinit (proposed cookie s ends follows reserved)) .count ∷ firstBad s ends ∷ [])
-    × (left ≡ leaves (tableCause (length out) cookie s ends follows reserved) (kexinit (proposed cookie s ends follows reserved)) out)
-unfolding wrote
-table-written cookie s ends out left follows reserved w k p e l f g h =
-    let t = table-good (length out) cookie s ends follows reserved f g h in
-    let c : writeCause (length out) k ≡ tableCause (length out) cookie s ends follows reserved = ap (writeCause (length out)) p ∙ sym t in (
-      ap (λ (x : Written). x .number) e ∙ c,
-      (λ i. (ap (λ (x : Written). x .count) e ∙ (λ j. wrote (c j) (kexinit (p j)) .count)) i ∷ sym f i ∷ []),
-      l ∙ (λ i. leaves (c i) (kexinit (p i)) out),
-    )
+    module _ (c : length cookie ≡ cookieSize) where
+      -- 57 bytes stand ahead of the boolean, but for the names, and 5 with it and behind
+      proposed-length : length (kexinit (proposed cookie s ends follows reserved)) ≡ length s + 57 + 5
+      unfolding proposed
+      proposed-length =
+          let n = length-kexinit (proposed cookie s ends follows reserved) in
+          let m = all-length s ends (sym f ∙ z) in
+          omega arith
+
+      pub names-long : kexinitMost < length s + 57 + 5 → Answered cookie s ends follows reserved out 4 (0 ∷ bad ∷ []) out
+      unfolding writeCause proposed
+      names-long e =
+          let n = proposed-length in
+          refused 4 (omega arith)
+          (table-good
+          ∙ unless-fails
+          (eqb (length cookie) cookieSize && every goodList (listsAt s ends 0 0 listCount) && leb (length (kexinit (proposed cookie s ends follows reserved))) kexinitMost)
+          4
+          (causeIf (ltb (length out) (length (kexinit (proposed cookie s ends follows reserved)))) 5 0)
+          (third-false (eqb (length cookie) cookieSize) (every goodList (listsAt s ends 0 0 listCount)) _ (lt-leb (length (kexinit (proposed cookie s ends follows reserved))) kexinitMost (omega arith))))
+
+      module _ (l : length s + 57 + 5 ≤ kexinitMost) where
+        cause-left : tableCause (length out) cookie s ends follows reserved ≡ causeIf (ltb (length out) (length (kexinit (proposed cookie s ends follows reserved)))) 5 0
+        unfolding writeCause proposed
+        cause-left =
+            let n = proposed-length in
+            table-good
+            ∙ unless-holds _ 4 _ (both (both (eq-eqb (length cookie) cookieSize c) (all-good s ends (sym f ∙ z))) (le-leb (length (kexinit (proposed cookie s ends follows reserved))) kexinitMost (omega arith)))
+
+        pub out-short : length out < length s + 57 + 5 → Answered cookie s ends follows reserved out 5 (0 ∷ bad ∷ []) out
+        out-short e =
+            let n = proposed-length in
+            refused 5 (omega arith) (cause-left ∙ if-holds _ 5 0 (lt-ltb (length out) (length (kexinit (proposed cookie s ends follows reserved))) (omega arith)))
+
+        module _ (k : length s + 57 + 5 ≤ length out) where
+          module _ (o1 : List ℕ) (e1 : o1 ≡ laid (set out 0 20) 1 cookie) where
+            pub lists-fit : (length s + 57 ≡ 17 + length (strings (listsAt s ends 0 0 listCount))) × (length s + 57 ≤ length o1)
+            lists-fit =
+                let m = all-length s ends (sym f ∙ z) in
+                let n = stored-length o1 out cookie 1 0 20 e1 in
+                (omega arith, omega arith)
+
+            module _ (o2 : List ℕ) (e2 : o2 ≡ laid o1 17 (strings (listsAt s ends 0 0 listCount))) where
+              laid-lists : length o2 ≡ length out
+              laid-lists = laid-length o2 o1 (strings (listsAt s ends 0 0 listCount)) 17 e2 ∙ stored-length o1 out cookie 1 0 20 e1
+
+              -- the boolean and the reserved number fit behind the lists
+              pub end-fits : length s + 57 + 5 ≤ length o2
+              end-fits = let n = laid-lists in omega arith
+
+              module _ (v : ℕ) (q : v ≡ cond (isYes follows) 1 0) (o3 : List ℕ) (e3 : o3 ≡ laid (set o2 (length s + 57) v) (length s + 57 + 1) (bytes32 reserved)) where
+                pub written-length : length o3 ≡ length out
+                written-length = stored-length o3 o2 (bytes32 reserved) (length s + 57 + 1) (length s + 57) v e3 ∙ laid-lists
+
+                pub table-written : Answered cookie s ends follows reserved out 0 ((length s + 57 + 5) ∷ 0 ∷ []) o3
+                unfolding proposed
+                table-written =
+                    let m = end-fits in
+                    let p = lists-fit .0 in
+                    let n = proposed-length in
+                    let w = cause-left ∙ if-fails _ 5 0 (le-ltb (length out) (length (kexinit (proposed cookie s ends follows reserved))) (omega arith)) in
+                    let x : o3 ≡ onto out (kexinit (proposed cookie s ends follows reserved)) =
+                    message-laid out cookie (listsAt s ends 0 0 listCount) [] (isYes follows) reserved c (omega arith) (length s + 57) (length s + 57) p (omega arith) o1 o2 o2 o3 e1 e2
+                    (sym (laid-nil o2 (length s + 57) (omega arith)))
+                    (e3 ∙ ap (λ (b : ℕ). laid (set o2 (length s + 57) b) (length s + 57 + 1) (bytes32 reserved)) q) in
+                    let t = told-done (tableCause (length out) cookie s ends follows reserved) (kexinit (proposed cookie s ends follows reserved)) out (length s + 57 + 5) o3 w (sym n) x in
+                    (t .0, (λ i. t .1 i ∷ (sym z ∙ f) i ∷ []), t .2)

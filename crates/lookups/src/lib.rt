@@ -1,5 +1,4 @@
 // What a host looks up of a method: its sizes and rules, and its name.
-use wire::Part;
 ghost use mathlib.Core.Path.{_≡_};
 ghost use mathlib.Core.Bool.{cond};
 ghost use lib.ListN.{length};
@@ -26,21 +25,21 @@ pub fn told_sign(sign: i8) -> i64
 pub fn method_sizes(method: u64, sizes: &mut [u64; 8]) -> u64
     ensures { λ n. ⌜ (n ≡ methodCause method) × (now (sizes .exit) ≡ sizesOf method) ⌝ }
 {
-    let m = methods::method_of(arguments::byte_of(method));
-    let c = m.c;
-    let s = m.s;
-    let form = m.k_form;
+    let m = arguments::byte_of(method);
+    let c = methods::c_shape(m);
+    let s = methods::s_shape(m);
+    let x = methods::x_len(m);
     *sizes = [
         c.len as u64,
         c.classical as u64,
         s.len as u64,
         s.classical as u64,
-        m.x_len as u64,
-        m.digest_len as u64,
-        told(methods::is_hybrid(form)),
-        told(m.zero_check),
+        x as u64,
+        methods::digest_len(m) as u64,
+        told(methods::is_hybrid(methods::k_form(m))),
+        told(methods::zero_check(m)),
     ];
-    if m.number == 0 {
+    if x == 0 {
         return 2;
     }
     0
@@ -53,17 +52,16 @@ pub fn method_name(method: u64, out: &mut [u8], count: &mut u64) -> u64
         let cause = nameCause (length (now (out .entry))) method in
         ⌜ (n ≡ cause) × (now (count .exit) ≡ wrote cause name .count) × (now (out .exit) ≡ leaves cause name (now (out .entry))) ⌝ }
 {
-    let m = methods::method_of(arguments::byte_of(method));
-    let bytes = m.name;
-    let len = m.name_len;
+    let m = arguments::byte_of(method);
+    let len = method_names::name_len(m);
     *count = 0;
-    if m.number == 0 {
+    if len == 0 {
         return 2;
     }
     if out.len() < len {
         return 5;
     }
-    buffers::put_bytes(out, 0, wire::part_of(&bytes, Part { start: 0, len }));
+    method_names::put_name(out, m);
     *count = len as u64;
     0
 }

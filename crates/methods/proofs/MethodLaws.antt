@@ -4,16 +4,15 @@ use Prim.Native.Nat.{ℕ, zero, suc, _+_, _-_, _≤_, _<_, _*_}
 use mathlib.Core.Path.{_≡_, refl, sym, ap, _∙_}
 use mathlib.Core.List.{List, [], _∷_}
 use mathlib.Core.Bool.{Bool, true, false, cond, _&&_}
+use mathlib.Core.Logic.{_⊎_, inl, inr}
 use native.Mathlib.Omega.{arith}
 use native.Mathlib.Nat.{add-zero, add-suc, suc-add}
 use lib.ListN.{length, getD, drop}
 use lib.Seq.{drop-cons}
 use lib.Dec.{leb, ltb, eqb}
-use borrow.Author.Tests.{eqb-true, leb-true, ltb-true, eq-eqb, ne-eqb}
+use borrow.Author.Tests.{eqb-true, leb-true, leb-false, ltb-true, eq-eqb, ne-eqb}
 use Rattle.buffers.specs.Bytes.{same}
-use Rattle.wire.specs.Parts.{part, inside, bytesAt}
 use Rattle.limits.proofs.BoolLaws.{and-true}
-use Rattle.wire.proofs.PartLaws.{inside-fits}
 use Rattle.limits.specs.Limits.{versionMost, kexinitMost, blobMost, kSize, roomLeast, methodLast}
 use Rattle.limits.specs.Every.{every}
 use Rattle.methods.specs.Rows.{hybrid, rows, noRow, nameOf, rowIn, named, rowOf, numberOf, kMost}
@@ -50,7 +49,7 @@ rowIn-at k (r ∷ rs) e (suc i) h =
 
 -- ---- rows
 
-length-rows : length rows ≡ methodLast
+pub length-rows : length rows ≡ methodLast
 unfolding rows
 length-rows = refl
 
@@ -75,12 +74,38 @@ row-number n h k =
 pub rule : (f : Method → Bool) → every f rows ≡ true → (n : ℕ) → 1 ≤ n → n ≤ methodLast → f (rowOf n) ≡ true
 rule f e n h k = ap f (row-at n h k) ∙ every-at f rows e (n - 1) (omega (arith, length-rows))
 
+-- likewise of its number and its row
+pub rule-at : (f : ℕ → Method → Bool) → every (λ r. f (r .number) r) rows ≡ true → (n : ℕ) → 1 ≤ n → n ≤ methodLast → f n (rowOf n) ≡ true
+rule-at f e n h k = ap (λ (m : ℕ). f m (rowOf n)) (sym (row-number n h k)) ∙ rule (λ r. f (r .number) r) e n h k
+
 -- no other number has a row
 pub row-none : (n : ℕ) → (n ≡ 1 → ⊥) → (n ≡ 2 → ⊥) → (n ≡ 3 → ⊥) → (n ≡ 4 → ⊥) → (n ≡ 5 → ⊥) → (n ≡ 6 → ⊥) → (n ≡ 7 → ⊥) → (n ≡ 8 → ⊥)
     → (n ≡ 9 → ⊥) → noRow ≡ rowOf n
 unfolding rowOf rows
 row-none n a b c d e f g h i =
     rw (ne-eqb n 1 a, ne-eqb n 2 b, ne-eqb n 3 c, ne-eqb n 4 d, ne-eqb n 5 e, ne-eqb n 6 f, ne-eqb n 7 g, ne-eqb n 8 h, ne-eqb n 9 i)
+
+-- and this is what a `match` with an arm for each number leaves to its last arm
+abbrev pub Other : ℕ → Type 0
+Other n =
+    ((((((((Unit × (n ≡ 1 → ⊥)) × (n ≡ 2 → ⊥)) × (n ≡ 3 → ⊥)) × (n ≡ 4 → ⊥)) × (n ≡ 5 → ⊥)) × (n ≡ 6 → ⊥)) × (n ≡ 7 → ⊥)) × (n ≡ 8 → ⊥)) × (n ≡ 9 → ⊥)
+
+pub row-other : (n : ℕ) → Other n → noRow ≡ rowOf n
+row-other n r =
+    row-none n (r .0 .0 .0 .0 .0 .0 .0 .0 .1) (r .0 .0 .0 .0 .0 .0 .0 .1) (r .0 .0 .0 .0 .0 .0 .1) (r .0 .0 .0 .0 .0 .1) (r .0 .0 .0 .0 .1) (r .0 .0 .0 .1) (r .0 .0 .1) (r .0 .1) (r .1)
+
+-- so a number is a method's, or has the empty row
+pub row-known : (n : ℕ) → ((1 ≤ n) × (n ≤ methodLast)) ⊎ (noRow ≡ rowOf n)
+row-known n = by-tests (leb 1 n) refl (leb n methodLast) refl
+  where
+    by-tests : (a : Bool) → leb 1 n ≡ a → (b : Bool) → leb n methodLast ≡ b → ((1 ≤ n) × (n ≤ methodLast)) ⊎ (noRow ≡ rowOf n)
+    by-tests true e true f = inl (leb-true 1 n e, leb-true n methodLast f)
+    by-tests true e false f =
+        let h : methodLast < n = leb-false n methodLast f in
+        inr (row-none n (λ q. omega arith) (λ q. omega arith) (λ q. omega arith) (λ q. omega arith) (λ q. omega arith) (λ q. omega arith) (λ q. omega arith) (λ q. omega arith) (λ q. omega arith))
+    by-tests false e b f =
+        let h : n < 1 = leb-false 1 n e in
+        inr (row-none n (λ q. omega arith) (λ q. omega arith) (λ q. omega arith) (λ q. omega arith) (λ q. omega arith) (λ q. omega arith) (λ q. omega arith) (λ q. omega arith) (λ q. omega arith))
 
 is-eq : (a b : Bool) → cond a b (cond b false true) ≡ true → a ≡ b
 is-eq true true e = refl
@@ -91,6 +116,7 @@ is-eq false false e = refl
 pub sound : (n : ℕ) → 1 ≤ n → n ≤ methodLast → Sound (rowOf n)
 unfolding rows
 sound n h k = record {
+  name-least = leb-true _ _ (rule (λ r. leb 1 (r .«name_len»)) refl n h k);
   name-fits = leb-true _ _ (rule (λ r. leb (r .«name_len») (length (r .name))) refl n h k);
   c-least = leb-true _ _ (rule (λ r. leb 1 (r .c .len)) refl n h k);
   c-most = leb-true _ _ (rule (λ r. leb (r .c .len) 1665) refl n h k);
@@ -133,7 +159,3 @@ named-at name n h k =
 pub named-end : (name : List ℕ) (n : ℕ) → n ≡ 10 → 0 ≡ named name (drop (n - 1) rows)
 unfolding rows
 named-end name n e = rw e
-
--- a row's name is the part of its array that `part_of` takes
-pub name-part : (r : Method) → Sound r → bytesAt (r .name) (inside (length (r .name)) (part 0 (r .«name_len»))) ≡ nameOf r
-name-part r s = ap (bytesAt (r .name)) (inside-fits (length (r .name)) (part 0 (r .«name_len»)) (omega (arith, s .name-fits)))

@@ -10,6 +10,7 @@ use Rattle.methods.specs.declared.Method.{Method}
 
 -- what holds of every method's row
 pub record Sound (r : Method) : Type 0 where
+  pub name-least : 1 ≤ r .«name_len»
   pub name-fits : r .«name_len» ≤ length (r .name)
   pub c-least : 1 ≤ r .c .len
   pub c-most : r .c .len ≤ 1665

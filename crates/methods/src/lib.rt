@@ -1,8 +1,7 @@
-// Document 01's table of methods: a row for each number and name, with the sizes and rules of its exchange.
-use wire::Part;
+// Document 01's table of methods, a row for each number, with the sizes and rules of its exchange: its columns, and the form of a public
+// value. The rows themselves are in specs/Rows.antt.
 ghost use mathlib.Core.Path.{_≡_};
-ghost use Prim.Native.Nat.{_+_};
-ghost use Rattle.methods.specs.Rows.{hybrid, rowOf, numberOf};
+ghost use Rattle.methods.specs.Rows.{hybrid, rowOf};
 ghost use Rattle.methods.specs.Form.{lengthFits, leadFits, formed};
 
 // How K stands in the hash input: X as an mpint, or a hybrid's digest as a string.
@@ -18,7 +17,7 @@ pub struct Shape {
     pub point: bool,
 }
 
-// A method's row. The name stands at the array's beginning, zeros after it. Number 0 is no method.
+// A method's row, for the specifications alone. The name stands at the array's beginning, zeros after it. Number 0 is no method.
 pub struct Method {
     pub number: u8,
     pub name: [u8; 28],
@@ -31,205 +30,190 @@ pub struct Method {
     pub digest_len: usize,
 }
 
-const NO_VALUE: Shape = Shape {
-    len: 0,
-    classical: 0,
-    point: false,
-};
-// RFC 7748: a coordinate.
-const CURVE25519: Shape = Shape {
-    len: 32,
-    classical: 0,
-    point: false,
-};
+// ---- the table's columns, each by its number: a row by value is large
 
-const CURVE448: Shape = Shape {
-    len: 56,
-    classical: 0,
-    point: false,
-};
-// SEC 1, not compressed: byte 4 and two coordinates.
-const P256: Shape = Shape {
-    len: 65,
-    classical: 0,
-    point: true,
-};
-
-const P384: Shape = Shape {
-    len: 97,
-    classical: 0,
-    point: true,
-};
-
-const P521: Shape = Shape {
-    len: 133,
-    classical: 0,
-    point: true,
-};
-// FIPS 203: an encapsulation key, or a ciphertext, ahead of the classical part.
-const KEY768_P256: Shape = Shape {
-    len: 1249,
-    classical: 1184,
-    point: true,
-};
-
-const TEXT768_P256: Shape = Shape {
-    len: 1153,
-    classical: 1088,
-    point: true,
-};
-
-const KEM1024_P384: Shape = Shape {
-    len: 1665,
-    classical: 1568,
-    point: true,
-};
-
-const KEY768_CURVE25519: Shape = Shape {
-    len: 1216,
-    classical: 1184,
-    point: false,
-};
-
-const TEXT768_CURVE25519: Shape = Shape {
-    len: 1120,
-    classical: 1088,
-    point: false,
-};
-
-// The row of a method number, 1 to 9; the empty row for any other.
-pub fn method_of(number: u8) -> Method
-    ensures { λ r. ⌜ r ≡ rowOf number ⌝ }
+// How long C is.
+fn c_len(number: u8) -> usize
+    ensures { λ r. ⌜ r ≡ rowOf number .c .len ⌝ }
 {
     match number {
-        1 => Method {
-            number: 1,
-            name: *b"curve25519-sha256\0\0\0\0\0\0\0\0\0\0\0",
-            name_len: 17,
-            c: CURVE25519,
-            s: CURVE25519,
-            x_len: 32,
-            k_form: KForm::Mpint,
-            zero_check: true,
-            digest_len: 32,
-        },
-        2 => Method {
-            number: 2,
-            name: *b"curve25519-sha256@libssh.org",
-            name_len: 28,
-            c: CURVE25519,
-            s: CURVE25519,
-            x_len: 32,
-            k_form: KForm::Mpint,
-            zero_check: true,
-            digest_len: 32,
-        },
-        3 => Method {
-            number: 3,
-            name: *b"curve448-sha512\0\0\0\0\0\0\0\0\0\0\0\0\0",
-            name_len: 15,
-            c: CURVE448,
-            s: CURVE448,
-            x_len: 56,
-            k_form: KForm::Mpint,
-            zero_check: true,
-            digest_len: 64,
-        },
-        4 => Method {
-            number: 4,
-            name: *b"ecdh-sha2-nistp256\0\0\0\0\0\0\0\0\0\0",
-            name_len: 18,
-            c: P256,
-            s: P256,
-            x_len: 32,
-            k_form: KForm::Mpint,
-            zero_check: false,
-            digest_len: 32,
-        },
-        5 => Method {
-            number: 5,
-            name: *b"ecdh-sha2-nistp384\0\0\0\0\0\0\0\0\0\0",
-            name_len: 18,
-            c: P384,
-            s: P384,
-            x_len: 48,
-            k_form: KForm::Mpint,
-            zero_check: false,
-            digest_len: 48,
-        },
-        6 => Method {
-            number: 6,
-            name: *b"ecdh-sha2-nistp521\0\0\0\0\0\0\0\0\0\0",
-            name_len: 18,
-            c: P521,
-            s: P521,
-            x_len: 66,
-            k_form: KForm::Mpint,
-            zero_check: false,
-            digest_len: 64,
-        },
-        7 => Method {
-            number: 7,
-            name: *b"mlkem768nistp256-sha256\0\0\0\0\0",
-            name_len: 23,
-            c: KEY768_P256,
-            s: TEXT768_P256,
-            x_len: 32,
-            k_form: KForm::Digest,
-            zero_check: false,
-            digest_len: 32,
-        },
-        8 => Method {
-            number: 8,
-            name: *b"mlkem1024nistp384-sha384\0\0\0\0",
-            name_len: 24,
-            c: KEM1024_P384,
-            s: KEM1024_P384,
-            x_len: 48,
-            k_form: KForm::Digest,
-            zero_check: false,
-            digest_len: 48,
-        },
-        9 => Method {
-            number: 9,
-            name: *b"mlkem768x25519-sha256\0\0\0\0\0\0\0",
-            name_len: 21,
-            c: KEY768_CURVE25519,
-            s: TEXT768_CURVE25519,
-            x_len: 32,
-            k_form: KForm::Digest,
-            zero_check: true,
-            digest_len: 32,
-        },
-        _ => Method {
-            number: 0,
-            name: *b"\0\0\0\0\0\0\0\0\0\0\0\0\0\0\0\0\0\0\0\0\0\0\0\0\0\0\0\0",
-            name_len: 0,
-            c: NO_VALUE,
-            s: NO_VALUE,
-            x_len: 0,
-            k_form: KForm::Mpint,
-            zero_check: false,
-            digest_len: 0,
-        },
+        1 => 32,
+        2 => 32,
+        3 => 56,
+        4 => 65,
+        5 => 97,
+        6 => 133,
+        7 => 1249,
+        8 => 1665,
+        9 => 1216,
+        _ => 0,
     }
 }
 
-// The number of the method of this name, 0 where there is none.
-pub fn number_of(name: &[u8]) -> u8
-    ensures { λ r. ⌜ r ≡ numberOf (now (name .entry)) ⌝ }
+// Where C's classical part begins.
+fn c_classical(number: u8) -> usize
+    ensures { λ r. ⌜ r ≡ rowOf number .c .classical ⌝ }
 {
-    let mut n: u8 = 1;
-    while n <= limits::METHOD_LAST {
-        let m = method_of(n);
-        let bytes = m.name;
-        let len = m.name_len;
-        if buffers::equal(name, wire::part_of(&bytes, Part { start: 0, len })) {
-            return n;
-        }
-        n += 1;
+    match number {
+        1 => 0,
+        2 => 0,
+        3 => 0,
+        4 => 0,
+        5 => 0,
+        6 => 0,
+        7 => 1184,
+        8 => 1568,
+        9 => 1184,
+        _ => 0,
     }
-    0
+}
+
+// How long S is.
+fn s_len(number: u8) -> usize
+    ensures { λ r. ⌜ r ≡ rowOf number .s .len ⌝ }
+{
+    match number {
+        1 => 32,
+        2 => 32,
+        3 => 56,
+        4 => 65,
+        5 => 97,
+        6 => 133,
+        7 => 1153,
+        8 => 1665,
+        9 => 1120,
+        _ => 0,
+    }
+}
+
+// Where S's classical part begins.
+fn s_classical(number: u8) -> usize
+    ensures { λ r. ⌜ r ≡ rowOf number .s .classical ⌝ }
+{
+    match number {
+        1 => 0,
+        2 => 0,
+        3 => 0,
+        4 => 0,
+        5 => 0,
+        6 => 0,
+        7 => 1088,
+        8 => 1568,
+        9 => 1088,
+        _ => 0,
+    }
+}
+
+// Whether the classical part, of C as of S, is a NIST point.
+fn is_point(number: u8) -> bool
+    ensures { λ r. ⌜ (r ≡ rowOf number .c .point) × (r ≡ rowOf number .s .point) ⌝ }
+{
+    match number {
+        1 => false,
+        2 => false,
+        3 => false,
+        4 => true,
+        5 => true,
+        6 => true,
+        7 => true,
+        8 => true,
+        9 => false,
+        _ => false,
+    }
+}
+
+// The shape of C.
+pub fn c_shape(number: u8) -> Shape
+    ensures { λ r. ⌜ r ≡ rowOf number .c ⌝ }
+{
+    Shape {
+        len: c_len(number),
+        classical: c_classical(number),
+        point: is_point(number),
+    }
+}
+
+// The shape of S.
+pub fn s_shape(number: u8) -> Shape
+    ensures { λ r. ⌜ r ≡ rowOf number .s ⌝ }
+{
+    Shape {
+        len: s_len(number),
+        classical: s_classical(number),
+        point: is_point(number),
+    }
+}
+
+// How long X is; 0 for a number that is no method.
+pub fn x_len(number: u8) -> usize
+    ensures { λ r. ⌜ r ≡ rowOf number .«x_len» ⌝ }
+{
+    match number {
+        1 => 32,
+        2 => 32,
+        3 => 56,
+        4 => 32,
+        5 => 48,
+        6 => 66,
+        7 => 32,
+        8 => 48,
+        9 => 32,
+        _ => 0,
+    }
+}
+
+// How K stands in the hash input.
+pub fn k_form(number: u8) -> KForm
+    ensures { λ r. ⌜ r ≡ rowOf number .«k_form» ⌝ }
+{
+    match number {
+        1 => KForm::Mpint,
+        2 => KForm::Mpint,
+        3 => KForm::Mpint,
+        4 => KForm::Mpint,
+        5 => KForm::Mpint,
+        6 => KForm::Mpint,
+        7 => KForm::Digest,
+        8 => KForm::Digest,
+        9 => KForm::Digest,
+        _ => KForm::Mpint,
+    }
+}
+
+// Whether a zero X is refused.
+pub fn zero_check(number: u8) -> bool
+    ensures { λ r. ⌜ r ≡ rowOf number .«zero_check» ⌝ }
+{
+    match number {
+        1 => true,
+        2 => true,
+        3 => true,
+        4 => false,
+        5 => false,
+        6 => false,
+        7 => false,
+        8 => false,
+        9 => true,
+        _ => false,
+    }
+}
+
+// How long the method's digest is.
+pub fn digest_len(number: u8) -> usize
+    ensures { λ r. ⌜ r ≡ rowOf number .«digest_len» ⌝ }
+{
+    match number {
+        1 => 32,
+        2 => 32,
+        3 => 64,
+        4 => 32,
+        5 => 48,
+        6 => 64,
+        7 => 32,
+        8 => 48,
+        9 => 32,
+        _ => 0,
+    }
 }
 
 // Whether K is a digest, as in the hybrids.

@@ -12,7 +12,7 @@ pub fn init_number(e: Exchange, room: &[u8], payload: &[u8]) -> u8
     ensures { λ r. ⌜ r ≡ number e (now (room .entry)) (init (now (payload .entry))) ⌝ }
 {
     let fed = judge_peer::init_cause(e.method, payload);
-    due::step_number(2, e, room.len(), fed)
+    by_value::step_number(2, e, room.len(), fed)
 }
 
 // The number that REPLY's step would answer.
@@ -20,7 +20,7 @@ pub fn reply_number(e: Exchange, room: &[u8], payload: &[u8]) -> u8
     ensures { λ r. ⌜ r ≡ number e (now (room .entry)) (reply (now (payload .entry))) ⌝ }
 {
     let fed = judge_peer::reply_cause(e.method, payload);
-    due::step_number(3, e, room.len(), fed)
+    by_value::step_number(3, e, room.len(), fed)
 }
 
 // The place of string i of an INIT that the step would accept; the empty part for every refusal.

@@ -15,7 +15,7 @@ use Rattle.exchange.specs.declared.Stage.{Stage}
 use Rattle.exchange.specs.declared.Stage.the-variants.{Started, CSent, InitRead, ReplyRead, SecretDone, Complete, Failed}
 use Rattle.exchange.specs.declared.Lengths.{Lengths}
 use Rattle.exchange.specs.declared.Exchange.{Exchange}
-use Rattle.stored.specs.Stored.{stageNumber, failNumber, stageOf, encoded, marksFit, fits, decoded}
+use Rattle.stored.specs.Stored.{stageNumber, failNumber, stageOf, encoded, marksFit, fits, LengthBytes, decoded}
 use Rattle.stored.proofs.StoredLaws.{fits-known}
 
 -- every length fits two bytes
@@ -121,24 +121,31 @@ high-back a b h k = omega arith
 low-back : (a b : ℕ) → a < 256 → b < 256 → (a * 256 + b) % 256 ≡ b
 low-back a b h k = omega arith
 
--- bytes that fit are those of their exchange
-pub encoded-decoded : (b : List ℕ) → Bytes b → fits b ≡ true → encoded (decoded b) ≡ b
+-- bytes that fit are those of their exchange: where its lengths are bytes, as whoever read them knows
+pub stored-again : (b : List ℕ) → LengthBytes b → fits b ≡ true → encoded (decoded b) ≡ b
 unfolding encoded decoded
-encoded-decoded b y h =
+stored-again b y h =
     let g : ℕ → ℕ = λ (k : ℕ). getD b k 0 in
     let f = fits-known b h in
     let n = f .0 in
     let m = numbers-back (g 0) (g 1) (g 2) (f .1) in
     (λ i. m .0 i ∷ m .1 i ∷ m .2 i ∷ g 3 ∷ g 4
-    ∷ high-back (g 5) (g 6) (y 5) (y 6) i ∷ low-back (g 5) (g 6) (y 5) (y 6) i
-    ∷ high-back (g 7) (g 8) (y 7) (y 8) i ∷ low-back (g 7) (g 8) (y 7) (y 8) i
-    ∷ high-back (g 9) (g 10) (y 9) (y 10) i ∷ low-back (g 9) (g 10) (y 9) (y 10) i
-    ∷ high-back (g 11) (g 12) (y 11) (y 12) i ∷ low-back (g 11) (g 12) (y 11) (y 12) i
-    ∷ high-back (g 13) (g 14) (y 13) (y 14) i ∷ low-back (g 13) (g 14) (y 13) (y 14) i
-    ∷ high-back (g 15) (g 16) (y 15) (y 16) i ∷ low-back (g 15) (g 16) (y 15) (y 16) i
-    ∷ high-back (g 17) (g 18) (y 17) (y 18) i ∷ low-back (g 17) (g 18) (y 17) (y 18) i
+    ∷ high-back (g 5) (g 6) (y .vc .0) (y .vc .1) i ∷ low-back (g 5) (g 6) (y .vc .0) (y .vc .1) i
+    ∷ high-back (g 7) (g 8) (y .vs .0) (y .vs .1) i ∷ low-back (g 7) (g 8) (y .vs .0) (y .vs .1) i
+    ∷ high-back (g 9) (g 10) (y .ic .0) (y .ic .1) i ∷ low-back (g 9) (g 10) (y .ic .0) (y .ic .1) i
+    ∷ high-back (g 11) (g 12) (y .is .0) (y .is .1) i ∷ low-back (g 11) (g 12) (y .is .0) (y .is .1) i
+    ∷ high-back (g 13) (g 14) (y .ks .0) (y .ks .1) i ∷ low-back (g 13) (g 14) (y .ks .0) (y .ks .1) i
+    ∷ high-back (g 15) (g 16) (y .c .0) (y .c .1) i ∷ low-back (g 15) (g 16) (y .c .0) (y .c .1) i
+    ∷ high-back (g 17) (g 18) (y .s .0) (y .s .1) i ∷ low-back (g 17) (g 18) (y .s .0) (y .s .1) i
     ∷ drop 19 b)
     ∙ firsts-drop b 0 19 (omega arith)
+
+length-bytes : (b : List ℕ) → Bytes b → LengthBytes b
+length-bytes b y = record { vc = (y 5, y 6); vs = (y 7, y 8); ic = (y 9, y 10); is = (y 11, y 12); ks = (y 13, y 14); c = (y 15, y 16); s = (y 17, y 18) }
+
+-- bytes as a host lends them
+pub encoded-decoded : (b : List ℕ) → Bytes b → fits b ≡ true → encoded (decoded b) ≡ b
+encoded-decoded b y h = stored-again b (length-bytes b y) h
 
 -- lengths that were loaded fit two bytes
 pub decoded-short : (b : List ℕ) → Bytes b → Short (decoded b .lens)

@@ -1,19 +1,22 @@
--- Bytes and the exchanges that they hold: a law for each `return`, and what a caller of `load` and `store` cites. Assumes nothing.
-use Prim.Native.Nat.{ℕ, _+_, _-_, _≤_, _<_}
+-- Bytes and the exchanges that they hold: a law for each `return`, and what goes by the bytes. Assumes nothing.
+use Prim.Native.Nat.{ℕ, _+_, _-_, _/_, _%_, _≤_, _<_}
 use mathlib.Core.Path.{_≡_, refl, sym, ap, _∙_}
 use mathlib.Core.List.{List, [], _++_, append-nil}
 use mathlib.Core.Bool.{Bool, true, false, cond, _&&_, false≢true}
 use native.Mathlib.Omega.{arith}
-use lib.ListN.{length, getD, take, drop, length-append, length-drop, length-replicate, drop-of-length-le}
-use lib.Dec.{eqb}
-use borrow.Author.Tests.{eq-eqb, ne-eqb, eqb-true, le-leb, lt-leb}
+use lib.ListN.{length, set, length-set, getD, drop, length-append, length-drop, length-replicate, drop-of-length-le}
+use lib.Dec.{eqb, leb}
+use borrow.Author.Tests.{eq-eqb, ne-eqb, eqb-true, le-leb, lt-leb, leb-true, leb-false}
 use Rattle.limits.specs.Limits.{kSize, exchangeSize, exchangeMark}
 use Rattle.buffers.specs.Bytes.{zeros, onto, laid}
-use Rattle.buffers.proofs.ByteLaws.{tail-part, over-zero, laid-fits, laid-laid}
-use Rattle.exchange.specs.declared.Stage.the-variants.{Failed}
+use Rattle.buffers.proofs.ByteLaws.{over-zero, laid-fits, laid-kept, laid-laid, length-over}
+use Rattle.exchange.specs.Record.{noLengths}
+use Rattle.exchange.specs.declared.Stage.{Stage}
+use Rattle.exchange.specs.declared.Lengths.{Lengths}
 use Rattle.exchange.specs.declared.Exchange.{Exchange}
-use Rattle.stored.specs.Stored.{stageOf, marksFit, fits, decoded, blank, loaded, byFit, bySize}
-use Rattle.stored.specs.declared.Taken.{Taken}
+use Rattle.exchange.specs.declared.Stage.the-variants.{Started, Failed}
+use Rattle.stored.specs.Changes.{put16}
+use Rattle.stored.specs.Stored.{stageOf, marksFit, fits, lengthsIn, decoded, blank, byFit, bySize}
 
 -- ---- stage and marks
 
@@ -47,28 +50,17 @@ unfolding onto
 laid-whole l b e =
     laid-fits l 0 b (omega arith) ∙ over-zero l b ∙ ap (λ (d : List ℕ). b ++ d) (drop-of-length-le l {i = length b} (omega arith)) ∙ append-nil b
 
+laid-none : (l : List ℕ) → laid l 0 [] ≡ l
+unfolding onto
+laid-none l = laid-fits l 0 [] (omega arith) ∙ over-zero l []
+
 pub laid-two : (l a b : List ℕ) (n : ℕ) → length a ≡ n → n + length b ≡ length l → laid (laid l 0 a) n b ≡ a ++ b
 laid-two l a b n e h =
     let k = length-append a b in
     let z : 0 + length a ≡ n = omega arith in
     ap (λ (m : ℕ). laid (laid l 0 a) m b) (sym z) ∙ laid-laid l 0 a b (omega arith) ∙ laid-whole l (a ++ b) (omega arith)
 
--- K, as it is read
-pub k-read : (b : List ℕ) → length b ≡ exchangeSize → laid (zeros kSize) 0 (take (length b - 19) (drop 19 b)) ≡ drop 19 b
-k-read b h =
-    ap (laid (zeros kSize) 0) (tail-part b 19) ∙ laid-whole (zeros kSize) (drop 19 b) (omega (arith, length-drop 19 b))
-
--- ---- load and store
-
-pub loaded-other : (b : List ℕ) → ¬ (length b ≡ exchangeSize) → blank ≡ loaded b
-unfolding loaded
-loaded-other b h = rw (ne-eqb (length b) exchangeSize h)
-
-pub loaded-whole : (b : List ℕ) (f : Bool) (e : Exchange) → length b ≡ exchangeSize → f ≡ marksFit (getD b 0 0) (getD b 1 0) (getD b 2 0) → e ≡ decoded b
-    → _≡_ {A = Taken} (record { fits = f; exchange = e }) (loaded b)
-unfolding loaded
-loaded-whole b f e h g d = rw (eq-eqb (length b) exchangeSize h) (λ i. record { fits = g i; exchange = d i })
-
+-- ---- by the size
 pub size-taken : {A : Type 0} (b : List ℕ) (old new : A) → length b ≡ exchangeSize → new ≡ bySize b new old
 unfolding bySize
 size-taken b old new h = rw (eq-eqb (length b) exchangeSize h)
@@ -76,15 +68,6 @@ size-taken b old new h = rw (eq-eqb (length b) exchangeSize h)
 pub size-left : {A : Type 0} (b : List ℕ) (old new : A) → ¬ (length b ≡ exchangeSize) → old ≡ bySize b new old
 unfolding bySize
 size-left b old new h = rw (ne-eqb (length b) exchangeSize h)
-
--- what is loaded fits where the bytes do
-pub loaded-fits : (b : List ℕ) → loaded b .fits ≡ fits b
-unfolding loaded fits
-loaded-fits b = by-size (eqb (length b) exchangeSize)
-  where
-    by-size : (t : Bool) → cond t (record { fits = marksFit (getD b 0 0) (getD b 1 0) (getD b 2 0); exchange = decoded b }) blank .fits ≡ t && marksFit (getD b 0 0) (getD b 1 0) (getD b 2 0)
-    by-size true = refl
-    by-size false = refl
 
 pub fits-known : (b : List ℕ) → fits b ≡ true → (length b ≡ exchangeSize) × (marksFit (getD b 0 0) (getD b 1 0) (getD b 2 0) ≡ true)
 unfolding fits
@@ -95,27 +78,49 @@ fits-known b h = by-size (eqb (length b) exchangeSize) refl h
     by-size true e h = (eqb-true (length b) exchangeSize e, h)
     by-size false e h = absurd (false≢true h)
 
--- and then the exchange is theirs
-loaded-exchange : (b : List ℕ) → fits b ≡ true → loaded b .exchange ≡ decoded b
-unfolding loaded
-loaded-exchange b h = rw (eq-eqb (length b) exchangeSize (fits-known b h .0))
+-- ---- what goes by the bytes
 
--- ---- what a caller of load makes of it
+pub fit-taken : {A : Type 0} (b : List ℕ) (new old : A) → fits b ≡ true → new ≡ byFit b new old
+unfolding byFit
+fit-taken b new old f = rw f
 
-module _ (b : List ℕ) (t : Taken) (o : t ≡ loaded b) where
-  taken-fits : (f : Bool) → t .fits ≡ f → fits b ≡ f
-  taken-fits f h = sym (loaded-fits b) ∙ sym (ap (λ (x : Taken). x .fits) o) ∙ h
+pub fit-left : {A : Type 0} (b : List ℕ) (new old : A) → fits b ≡ false → old ≡ byFit b new old
+unfolding byFit
+fit-left b new old f = rw f
 
-  pub taken-size : t .fits ≡ true → length b ≡ exchangeSize
-  taken-size f = fits-known b (taken-fits true f) .0
+pub size-unfit : (b : List ℕ) → ¬ (length b ≡ exchangeSize) → false ≡ fits b
+unfolding fits
+size-unfit b h = rw (ne-eqb (length b) exchangeSize h)
 
-  pub taken-exchange : t .fits ≡ true → t .exchange ≡ decoded b
-  taken-exchange f = ap (λ (y : Taken). y .exchange) o ∙ loaded-exchange b (taken-fits true f)
+pub marks-fits : (b : List ℕ) → length b ≡ exchangeSize → marksFit (getD b 0 0) (getD b 1 0) (getD b 2 0) ≡ fits b
+unfolding fits
+marks-fits b h = rw (eq-eqb (length b) exchangeSize h)
 
-  pub by-taken : {A : Type 0} (F : Exchange → A) (old v : A) → t .fits ≡ true → v ≡ F (t .exchange) → v ≡ byFit b (F (decoded b)) old
-  unfolding byFit
-  by-taken F old v f e = rw (taken-fits true f, e, taken-exchange f)
+-- ---- what is changed is as long
 
-  pub by-left : {A : Type 0} (new old : A) → t .fits ≡ false → old ≡ byFit b new old
-  unfolding byFit
-  by-left new old f = rw (taken-fits false f)
+pub length-put16 : (b : List ℕ) (at n : ℕ) → length (put16 b at n) ≡ length b
+length-put16 b at n = length-set (set b at (n / 256 % 256)) (at + 1) (n % 256) ∙ length-set b at (n / 256 % 256)
+
+pub length-laid : (l : List ℕ) (at : ℕ) (b : List ℕ) → length (laid l at b) ≡ length l
+length-laid l at b = by-fit (leb (at + length b) (length l)) refl
+  where
+    by-fit : (t : Bool) → leb (at + length b) (length l) ≡ t → length (laid l at b) ≡ length l
+    by-fit true e = let f = leb-true (at + length b) (length l) e in ap length (laid-fits l at b f) ∙ length-over l at b f
+    by-fit false e = ap length (laid-kept l at b (leb-false (at + length b) (length l) e))
+
+-- ---- load
+
+module _ (b k : List ℕ) (l : Lengths) (e : l ≡ bySize b (lengthsIn b) noLengths) (d : k ≡ laid (zeros kSize) 0 (bySize b (drop 19 b) [])) where
+  pub loaded-blank : ¬ (length b ≡ exchangeSize) → _≡_ {A = Exchange} (record { stage = Started; role = 0; method = 0; lens = l; k = k }) (bySize b (decoded b) blank)
+  loaded-blank h =
+      let m = d ∙ ap (laid (zeros kSize) 0) (sym (size-left b [] (drop 19 b) h)) ∙ laid-none (zeros kSize) in
+      (λ i. record { stage = Started; role = 0; method = 0; lens = (e ∙ sym (size-left b noLengths (lengthsIn b) h)) i; k = m i })
+      ∙ size-left b blank (decoded b) h
+
+  pub loaded-whole : (s : Stage) → length b ≡ exchangeSize → s ≡ decoded b .stage
+      → _≡_ {A = Exchange} (record { stage = s; role = getD b 3 0; method = getD b 4 0; lens = l; k = k }) (bySize b (decoded b) blank)
+  unfolding decoded
+  loaded-whole s h g =
+      let m = d ∙ ap (laid (zeros kSize) 0) (sym (size-taken b [] (drop 19 b) h)) ∙ laid-whole (zeros kSize) (drop 19 b) (omega (arith, length-drop 19 b)) in
+      (λ i. record { stage = g i; role = getD b 3 0; method = getD b 4 0; lens = (e ∙ sym (size-taken b noLengths (lengthsIn b) h)) i; k = m i })
+      ∙ size-taken b blank (decoded b) h

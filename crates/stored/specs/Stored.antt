@@ -1,7 +1,7 @@
 -- The exchange as bytes, and the answers that go by them. Assumes nothing.
-use Prim.Native.Nat.{ℕ, _+_, _*_, _/_, _%_}
+use Prim.Native.Nat.{ℕ, _+_, _*_, _/_, _%_, _<_}
 use mathlib.Core.List.{List, [], _∷_, _++_}
-use mathlib.Core.Bool.{Bool, false, cond, _&&_, _||_}
+use mathlib.Core.Bool.{Bool, cond, _&&_, _||_}
 use lib.ListN.{length, getD, drop}
 use lib.Dec.{leb, eqb}
 use Rattle.limits.specs.Limits.{kSize, exchangeSize, exchangeMark}
@@ -11,7 +11,6 @@ use Rattle.exchange.specs.declared.Stage.{Stage}
 use Rattle.exchange.specs.declared.Stage.the-variants.{Started, CSent, InitRead, ReplyRead, SecretDone, Complete, Failed}
 use Rattle.exchange.specs.declared.Lengths.{Lengths}
 use Rattle.exchange.specs.declared.Exchange.{Exchange}
-use Rattle.stored.specs.declared.Taken.{Taken}
 
 -- ---- a stage as two numbers: which it is, and what ended a failed exchange
 
@@ -87,6 +86,19 @@ lengthsIn b = record {
   s = number16 b 17;
 }
 
+-- both bytes of a length are bytes, as whoever read them knows
+abbrev pub Halves : List ℕ → ℕ → Type 0
+Halves b at = (getD b at 0 < 256) × (getD b (at + 1) 0 < 256)
+
+pub record LengthBytes (b : List ℕ) : Type 0 where
+  pub vc : Halves b 5
+  pub vs : Halves b 7
+  pub ic : Halves b 9
+  pub is : Halves b 11
+  pub ks : Halves b 13
+  pub c : Halves b 15
+  pub s : Halves b 17
+
 unfoldable pub decoded : List ℕ → Exchange
 decoded b = record {
   stage = stageOf (getD b 1 0) (getD b 2 0);
@@ -96,15 +108,9 @@ decoded b = record {
   k = drop 19 b;
 }
 
--- what the code takes bytes for: of another length, for a blank that does not fit
-abbrev pub blank : Taken
-blank = record {
-  fits = false;
-  exchange = record { stage = Started; role = 0; method = 0; lens = noLengths; k = zeros kSize };
-}
-
-unfoldable pub loaded : List ℕ → Taken
-loaded b = cond (eqb (length b) exchangeSize) (record { fits = marksFit (getD b 0 0) (getD b 1 0) (getD b 2 0); exchange = decoded b }) blank
+-- what bytes of another size are loaded as
+abbrev pub blank : Exchange
+blank = record { stage = Started; role = 0; method = 0; lens = noLengths; k = zeros kSize }
 
 -- ---- answers that go by lent bytes: one where an exchange has them, or where they are as many as one has; else another
 

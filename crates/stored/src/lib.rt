@@ -1,22 +1,53 @@
 // An exchange as the bytes that a host lends for it: the mark of the layout, stage, fail number, role and method a byte each, seven
-// lengths of two bytes, the highest first, and K.
+// lengths of two bytes, the highest first, and K. What a step reads of them, and what it changes.
 use exchange::Exchange;
 use exchange::Lengths;
 use exchange::Stage;
 ghost use mathlib.Core.Path.{_≡_};
-ghost use Prim.Native.Nat.{_+_, _*_, _≤_};
-ghost use lib.ListN.{length};
+ghost use mathlib.Core.List.{[]};
+ghost use Prim.Native.Nat.{_+_, _*_, _≤_, _<_};
+ghost use lib.ListN.{length, getD, set, drop};
 ghost use Rattle.limits.specs.Limits.{exchangeSize};
-ghost use Rattle.stored.specs.Stored.{stageNumber, failNumber, stageOf, marksFit, number16, decoded, blank, loaded, bySize, encoded};
+ghost use Rattle.buffers.specs.Bytes.{laid};
+ghost use Rattle.exchange.specs.Record.{noLengths};
+ghost use Rattle.stored.specs.Stored.{stageNumber, failNumber, stageOf, marksFit, fits as fitting, number16, Halves, lengthsIn, LengthBytes, decoded, blank, bySize, encoded};
+ghost use Rattle.stored.specs.Changes.{put16, marked, begun};
 
-// Bytes taken for an exchange, and whether one has them.
-pub struct Taken {
-    pub fits: bool,
-    pub exchange: Exchange,
-}
+// Where the single bytes stand.
+const MARK_AT: usize = 0;
+
+const STAGE_AT: usize = 1;
+
+const FAIL_AT: usize = 2;
+
+pub const ROLE_AT: usize = 3;
+
+pub const METHOD_AT: usize = 4;
+
+// Where the lengths of K_S, C and S stand, behind those of both V and both I.
+const KS_AT: usize = 13;
+
+const C_AT: usize = 15;
+
+const S_AT: usize = 17;
 
 // Where K begins: behind five bytes and seven lengths.
 const K_AT: usize = 19;
+
+// The numbers of the stages.
+pub const STARTED: u8 = 0;
+
+pub const C_SENT: u8 = 1;
+
+pub const INIT_READ: u8 = 2;
+
+pub const REPLY_READ: u8 = 3;
+
+pub const SECRET_DONE: u8 = 4;
+
+pub const COMPLETE: u8 = 5;
+
+pub const FAILED: u8 = 6;
 
 // The number of a stage: 0 started, 1 own C sent, 2 INIT read, 3 REPLY read, 4 secret done, 5 complete, 6 failed.
 pub fn stage_number(stage: Stage) -> u8
@@ -48,7 +79,8 @@ pub fn fail_number(stage: Stage) -> u8
     }
 }
 
-fn stage_of(stage: u8, fail: u8) -> Stage
+// The stage of a number, with what ended it where that is failed.
+pub fn stage_of(stage: u8, fail: u8) -> Stage
     ensures { λ r. ⌜ r ≡ stageOf stage fail ⌝ }
 {
     match stage {
@@ -78,9 +110,33 @@ fn marks_fit(mark: u8, stage: u8, fail: u8) -> bool
     fail == 0
 }
 
-// Two bytes as a number: their range is known where they are added up.
+// Whether an exchange has these bytes.
+pub fn fits(b: &[u8]) -> bool
+    ensures { λ r. ⌜ r ≡ fitting (now (b .entry)) ⌝ }
+{
+    if b.len() != limits::EXCHANGE_SIZE {
+        return false;
+    }
+    marks_fit(b[MARK_AT], b[STAGE_AT], b[FAIL_AT])
+}
+
+// The byte at a place, 0 behind the end.
+pub fn byte_in(b: &[u8], at: usize) -> u8
+    ensures { λ r. ⌜ r ≡ getD (now (b .entry)) at 0 ⌝ }
+{
+    if at < b.len() { b[at] } else { 0 }
+}
+
+// The stage that bytes tell.
+pub fn stage_in(b: &[u8]) -> Stage
+    ensures { λ r. ⌜ r ≡ decoded (now (b .entry)) .stage ⌝ }
+{
+    stage_of(byte_in(b, STAGE_AT), byte_in(b, FAIL_AT))
+}
+
+// Two bytes as a number: that they are bytes is known where they are added up.
 fn join(a: u8, b: u8) -> usize
-    ensures { λ r. ⌜ r ≡ a * 256 + b ⌝ }
+    ensures { λ r. ⌜ (r ≡ a * 256 + b) × (a < 256) × (b < 256) ⌝ }
 {
     (a as usize) * 256 + (b as usize)
 }
@@ -88,73 +144,71 @@ fn join(a: u8, b: u8) -> usize
 // The number in the two bytes from `at` on.
 fn u16_at(b: &[u8], at: usize) -> usize
     requires { ⌜ at + 2 ≤ length (now b) ⌝ }
-    ensures { λ r. ⌜ r ≡ number16 (now (b .entry)) at ⌝ }
+    ensures { λ r. ⌜ (r ≡ number16 (now (b .entry)) at) × Halves (now (b .entry)) at ⌝ }
 {
     join(b[at], b[at + 1])
 }
 
-// The exchange in as many bytes as one has.
-fn decode(b: &[u8]) -> Exchange
-    requires { ⌜ length (now b) ≡ exchangeSize ⌝ }
-    ensures { λ r. ⌜ r ≡ decoded (now (b .entry)) ⌝ }
+// The lengths that bytes tell; none in bytes of another size.
+pub fn lengths_in(b: &[u8]) -> Lengths
+    ensures { λ r. ⌜ (r ≡ bySize (now (b .entry)) (lengthsIn (now (b .entry))) noLengths) × (length (now (b .entry)) ≡ exchangeSize → LengthBytes (now (b .entry))) ⌝ }
 {
-    let stage = stage_of(b[1], b[2]);
-    let lens = Lengths {
+    if b.len() != limits::EXCHANGE_SIZE {
+        return Lengths {
+            vc: 0,
+            vs: 0,
+            ic: 0,
+            is: 0,
+            ks: 0,
+            c: 0,
+            s: 0,
+        };
+    }
+    Lengths {
         vc: u16_at(b, 5),
         vs: u16_at(b, 7),
         ic: u16_at(b, 9),
         is: u16_at(b, 11),
-        ks: u16_at(b, 13),
-        c: u16_at(b, 15),
-        s: u16_at(b, 17),
-    };
+        ks: u16_at(b, KS_AT),
+        c: u16_at(b, C_AT),
+        s: u16_at(b, S_AT),
+    }
+}
+
+// K's record among the bytes; empty in bytes of another size.
+pub fn k_in(b: &[u8]) -> &[u8]
+    ensures { λ r. ⌜ now r ≡ bySize (now (b .entry)) (drop 19 (now (b .entry))) [] ⌝ }
+{
+    if b.len() != limits::EXCHANGE_SIZE {
+        return &b[0..0];
+    }
+    &b[K_AT..]
+}
+
+// The exchange in as many bytes as one has, a blank one in others.
+pub fn load(b: &[u8]) -> Exchange
+    ensures { λ r. ⌜ r ≡ bySize (now (b .entry)) (decoded (now (b .entry))) blank ⌝ }
+{
     let mut k = [0u8; limits::K_SIZE];
-    buffers::put_bytes(&mut k, 0, &b[K_AT..]);
+    buffers::put_bytes(&mut k, 0, k_in(b));
+    let lens = lengths_in(b);
+    if b.len() != limits::EXCHANGE_SIZE {
+        return Exchange {
+            stage: Stage::Started,
+            role: 0,
+            method: 0,
+            lens,
+            k,
+        };
+    }
+    let stage = stage_in(b);
     Exchange {
         stage,
-        role: b[3],
-        method: b[4],
+        role: b[ROLE_AT],
+        method: b[METHOD_AT],
         lens,
         k,
     }
-}
-
-// What bytes of another length are taken for.
-fn none() -> Taken
-    ensures { λ t. ⌜ t ≡ blank ⌝ }
-{
-    let lens = Lengths {
-        vc: 0,
-        vs: 0,
-        ic: 0,
-        is: 0,
-        ks: 0,
-        c: 0,
-        s: 0,
-    };
-    let exchange = Exchange {
-        stage: Stage::Started,
-        role: 0,
-        method: 0,
-        lens,
-        k: [0; limits::K_SIZE],
-    };
-    Taken {
-        fits: false,
-        exchange,
-    }
-}
-
-// The exchange in lent bytes, and whether they are one's.
-pub fn load(b: &[u8]) -> Taken
-    ensures { λ t. ⌜ t ≡ loaded (now (b .entry)) ⌝ }
-{
-    if b.len() != limits::EXCHANGE_SIZE {
-        return none();
-    }
-    let fits = marks_fit(b[0], b[1], b[2]);
-    let exchange = decode(b);
-    Taken { fits, exchange }
 }
 
 // Lays an exchange into lent bytes that are as many as one has; others stay.
@@ -190,4 +244,95 @@ pub fn store(b: &mut [u8], x: Exchange)
     ];
     buffers::put_bytes(b, 0, &head);
     buffers::put_bytes(b, K_AT, &k);
+}
+
+// ---- what a step changes, in as many bytes as an exchange has; others stay
+
+// A length, in two bytes.
+fn put_u16(b: &mut [u8], at: usize, n: usize)
+    requires { ⌜ at + 2 ≤ length (now b) ⌝ }
+    ensures { λ _. ⌜ now (b .exit) ≡ put16 (now (b .entry)) at n ⌝ }
+{
+    b[at] = (n / 256 % 256) as u8;
+    b[at + 1] = (n % 256) as u8;
+}
+
+// The stage alone.
+pub fn put_stage(b: &mut [u8], stage: u8)
+    ensures { λ _. ⌜ now (b .exit) ≡ bySize (now (b .entry)) (set (now (b .entry)) 1 stage) (now (b .entry)) ⌝ }
+{
+    if b.len() != limits::EXCHANGE_SIZE {
+        return;
+    }
+    b[STAGE_AT] = stage;
+}
+
+// The stage, and C's length.
+pub fn put_c(b: &mut [u8], stage: u8, c: usize)
+    ensures { λ _. ⌜ now (b .exit) ≡ bySize (now (b .entry)) (put16 (set (now (b .entry)) 1 stage) 15 c) (now (b .entry)) ⌝ }
+{
+    if b.len() != limits::EXCHANGE_SIZE {
+        return;
+    }
+    b[STAGE_AT] = stage;
+    put_u16(b, C_AT, c);
+}
+
+// The stage, and the lengths of K_S and S.
+pub fn put_s(b: &mut [u8], stage: u8, ks: usize, s: usize)
+    ensures { λ _. ⌜ now (b .exit) ≡ bySize (now (b .entry)) (put16 (put16 (set (now (b .entry)) 1 stage) 13 ks) 17 s) (now (b .entry)) ⌝ }
+{
+    if b.len() != limits::EXCHANGE_SIZE {
+        return;
+    }
+    b[STAGE_AT] = stage;
+    put_u16(b, KS_AT, ks);
+    put_u16(b, S_AT, s);
+}
+
+// The stage, and K's record.
+pub fn put_k(b: &mut [u8], stage: u8, k: &[u8])
+    ensures { λ _. ⌜ now (b .exit) ≡ bySize (now (b .entry)) (laid (set (now (b .entry)) 1 stage) 19 (now (k .entry))) (now (b .entry)) ⌝ }
+{
+    if b.len() != limits::EXCHANGE_SIZE {
+        return;
+    }
+    b[STAGE_AT] = stage;
+    buffers::put_bytes(b, K_AT, k);
+}
+
+// The five single bytes.
+fn put_marks(b: &mut [u8], stage: u8, fail: u8, role: u8, method: u8)
+    requires { ⌜ 5 ≤ length (now b) ⌝ }
+    ensures { λ _. ⌜ now (b .exit) ≡ marked (now (b .entry)) stage fail role method ⌝ }
+{
+    b[MARK_AT] = limits::EXCHANGE_MARK;
+    b[STAGE_AT] = stage;
+    b[FAIL_AT] = fail;
+    b[ROLE_AT] = role;
+    b[METHOD_AT] = method;
+}
+
+// All that stands ahead of the length of K_S.
+pub fn put_head(
+    b: &mut [u8],
+    stage: u8,
+    fail: u8,
+    role: u8,
+    method: u8,
+    vc: usize,
+    vs: usize,
+    ic: usize,
+    is: usize,
+)
+    ensures { λ _. ⌜ now (b .exit) ≡ bySize (now (b .entry)) (begun (now (b .entry)) stage fail role method vc vs ic is) (now (b .entry)) ⌝ }
+{
+    if b.len() != limits::EXCHANGE_SIZE {
+        return;
+    }
+    put_marks(b, stage, fail, role, method);
+    put_u16(b, 5, vc);
+    put_u16(b, 7, vs);
+    put_u16(b, 9, ic);
+    put_u16(b, 11, is);
 }

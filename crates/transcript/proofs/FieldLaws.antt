@@ -1,12 +1,12 @@
 -- Laws for the proofs of the functions: a field that is missing, one turn of each loop, and what is laid ahead. Assumes nothing.
-use Prim.Native.Nat.{ℕ, suc, _+_, _-_, _≤_, _<_}
+use Prim.Native.Nat.{ℕ, zero, suc, _+_, _-_, _≤_, _<_}
 use mathlib.Core.Path.{_≡_, refl, sym, ap, _∙_}
 use mathlib.Core.List.{List, [], _∷_, _++_, append-assoc, append-nil}
 use mathlib.Core.Bool.{Bool, true, false, cond}
 use native.Mathlib.Omega.{arith}
-use native.Mathlib.Nat.{add-assoc, add-zero, add-suc}
-use lib.ListN.{length, getD, take, drop, set, length-append, length-take, length-drop, drop-of-length-le, take-append-drop, List·getD-append}
-use lib.Seq.{drop-at, take-take, take-append-le, take-suc, set-at, drop-cons, getD-take, getD-drop, length-take-le, drop-length}
+use native.Mathlib.Nat.{add-assoc, add-zero}
+use lib.ListN.{length, getD, take, drop, set, length-append, length-take, length-drop, drop-of-length-le, take-append-drop}
+use lib.Seq.{drop-at, take-take, take-append-le, drop-append-le, drop-drop, drop-cons, sets-eq, length-take-le, drop-length}
 use lib.Dec.{leb}
 use borrow.Author.Fill.{fill-more}
 use borrow.Author.Tests.{le-leb, lt-leb, eq-eqb, ne-eqb}
@@ -82,6 +82,45 @@ wipe-turn r d i e h = rw e (fill-more i 0 r h)
 pub wiped : (r d : List ℕ) (i : ℕ) → d ≡ zeros i ++ drop i r → i ≡ length r → d ≡ zeros (length r)
 wiped r d i e h = e ∙ rw (h, drop-length, append-nil)
 
+-- ---- sixteen bytes, read and then written
+
+-- n bytes of l from i + k on, one by one
+abbrev run : List ℕ → ℕ → ℕ → ℕ → List ℕ
+run l i k zero = []
+run l i k (suc n) = getD l (i + k) 0 ∷ run l i (suc k) n
+
+run-is : (l : List ℕ) (i k n : ℕ) → i + (k + n) ≤ length l → run l i k n ≡ take n (drop (i + k) l)
+run-is l i k zero h = refl
+run-is l i k (suc n) h =
+    let e : i + suc k ≡ suc (i + k) = omega arith in
+    ap (λ (x : List ℕ). getD l (i + k) 0 ∷ x) (run-is l i (suc k) n (omega arith) ∙ ap (λ (m : ℕ). take n (drop m l)) e)
+    ∙ sym (rw (drop-cons l (i + k) 0 (omega arith)))
+
+pub over-eight : (l : List ℕ) (at b0 b1 b2 b3 b4 b5 b6 b7 : ℕ) → at + 8 ≤ length l
+    → set (set (set (set (set (set (set (set l at b0) (at + 1) b1) (at + 2) b2) (at + 3) b3) (at + 4) b4) (at + 5) b5) (at + 6) b6) (at + 7) b7
+    ≡ over l at (b0 ∷ b1 ∷ b2 ∷ b3 ∷ b4 ∷ b5 ∷ b6 ∷ b7 ∷ [])
+unfolding over
+over-eight l at b0 b1 b2 b3 b4 b5 b6 b7 h =
+    let e1 : at + 1 ≡ suc at = omega arith in
+    let e2 : at + 2 ≡ suc (suc at) = omega arith in
+    let e3 : at + 3 ≡ suc (suc (suc at)) = omega arith in
+    let e4 : at + 4 ≡ suc (suc (suc (suc at))) = omega arith in
+    let e5 : at + 5 ≡ suc (suc (suc (suc (suc at)))) = omega arith in
+    let e6 : at + 6 ≡ suc (suc (suc (suc (suc (suc at))))) = omega arith in
+    let e7 : at + 7 ≡ suc (suc (suc (suc (suc (suc (suc at)))))) = omega arith in
+    rw (e1, e2, e3, e4, e5, e6, e7) (sets-eq (b0 ∷ b1 ∷ b2 ∷ b3 ∷ b4 ∷ b5 ∷ b6 ∷ b7 ∷ []) l at h)
+
+-- eight of them, then the other eight
+pub moved-sixteen : (l m o : List ℕ) (from to : ℕ) → from + 16 ≤ length l → to + 16 ≤ length l
+    → m ≡ over l to (getD l from 0 ∷ run l from 1 7) → o ≡ over m (to + 8) (run l from 8 8)
+    → o ≡ over l to (take 16 (drop from l))
+moved-sixteen l m o from to h k e f =
+    let x : List ℕ = getD l from 0 ∷ run l from 1 7 in
+    let d : from + 1 ≡ suc from = omega arith in
+    let a : x ++ run l from 8 8 ≡ take 16 (drop from l) =
+    ap (λ (y : List ℕ). getD l from 0 ∷ y) (run-is l from 1 15 h ∙ ap (λ (n : ℕ). take 15 (drop n l)) d) ∙ sym (rw (drop-cons l from 0 (omega arith))) in
+    f ∙ ap (λ (y : List ℕ). over y (to + 8) (run l from 8 8)) e ∙ over-over l to x (run l from 8 8) (omega arith) ∙ ap (over l to) a
+
 -- ---- bytes moved up, the last of them first
 
 -- i of them are still to move
@@ -95,25 +134,55 @@ shifted-none r at len by h =
     let e : length (take len (drop at r)) ≤ len = simp length-take (omega arith) in
     simp (drop-of-length-le (take len (drop at r)) e, append-nil, take-append-drop)
 
--- one more is moved
-pub shifted-turn : (r d : List ℕ) (at len by i : ℕ) → d ≡ shifted r at len by (suc i) → at + by + len ≤ length r → i < len
-    → set d (at + by + i) (getD d (at + i) 0) ≡ shifted r at len by i
-unfolding shifted
-shifted-turn r d at len by i e h l =
+-- bytes that all stand in the first of two parts
+front-part : (p s : List ℕ) (k n : ℕ) → k + n ≤ length p → take n (drop k (p ++ s)) ≡ take n (drop k p)
+front-part p s k n h =
+    let e : n ≤ length (drop k p) = omega (arith, length-drop k p) in
+    rw (drop-append-le k p s (omega arith), take-append-le n (drop k p) s e)
+
+-- n more are moved
+pub shifted-some : (r d : List ℕ) (at len by i n : ℕ) → d ≡ shifted r at len by (i + n) → at + by + len ≤ length r → i + n ≤ len
+    → over d (at + by + i) (take n (drop (at + i) d)) ≡ shifted r at len by i
+unfolding shifted over
+shifted-some r d at len by i n e h l =
+    let k : ℕ = at + by + (i + n) in
     let m : List ℕ = take len (drop at r) in
-    let rest : List ℕ = drop (suc i) m ++ drop (at + by + len) r in
-    let p : List ℕ = take (at + by + i) r in
-    let lm : i < length m = simp (length-take, length-drop) (omega arith) in
-    let lp : length p ≡ at + by + i = length-take-le (at + by + i) r (omega arith) in
-    -- d, split at the byte that is written
-    let s : d ≡ p ++ getD r (at + by + i) 0 ∷ rest = e ∙ rw (add-suc (at + by) i, take-suc r (at + by + i) 0 (omega arith)) (simp append-assoc) in
-    -- the byte that is read
-    let lt : at + i < length (take (suc (at + by + i)) r) = simp length-take (omega arith) in
-    let y : getD d (at + i) 0 ≡ getD m i 0 =
-    rw (e, add-suc (at + by) i, append-assoc) (List·getD-append (take (suc (at + by + i)) r) _ 0 (at + i) lt
-    ∙ getD-take (suc (at + by + i)) r (at + i) 0 (omega arith))
-    ∙ sym (getD-take len (drop at r) i 0 l ∙ getD-drop at r i 0) in
-    rw (y, s) (set-at p _ rest _ (at + by + i) lp ∙ rw (drop-cons m i 0 lm) (simp append-assoc))
+    let p : List ℕ = take k r in
+    let rest : List ℕ = drop (i + n) m ++ drop (at + by + len) r in
+    let lm : length m ≡ len = simp (length-take, length-drop) (omega arith) in
+    let lp : length p ≡ k = length-take-le k r (omega arith) in
+    let s : d ≡ p ++ rest = e ∙ append-assoc p (drop (i + n) m) (drop (at + by + len) r) in
+    -- what stands ahead of them
+    let t : take (at + by + i) d ≡ take (at + by + i) r =
+    ap (take (at + by + i)) s ∙ take-append-le (at + by + i) p rest (omega arith) ∙ take-take (at + by + i) k r (omega arith) in
+    -- the bytes that are read
+    let u : take n (drop (at + i) d) ≡ take n (drop i m) =
+    ap (λ (x : List ℕ). take n (drop (at + i) x)) s
+    ∙ front-part p rest (at + i) n (omega arith)
+    ∙ sym (front-part p (drop k r) (at + i) n (omega arith))
+    ∙ ap (λ (x : List ℕ). take n (drop (at + i) x)) (take-append-drop k r)
+    ∙ sym (ap (take n) (drop-drop i at r))
+    ∙ ap (λ (x : List ℕ). take n (drop i x)) (sym (take-append-drop len (drop at r)))
+    ∙ front-part m (drop len (drop at r)) i n (omega arith) in
+    let lu : length (take n (drop i m)) ≡ n = simp (length-take, length-drop) (omega arith) in
+    -- those behind
+    let z : at + by + i + n ≡ k = omega arith in
+    let v : drop (at + by + i + n) d ≡ rest = ap (drop (at + by + i + n)) s ∙ drop-at p rest (at + by + i + n) (lp ∙ sym z) in
+    let w : take n (drop i m) ++ drop (i + n) m ≡ drop i m =
+    ap (λ (x : List ℕ). take n (drop i m) ++ x) (sym (drop-drop n i m)) ∙ take-append-drop n (drop i m) in
+    let g : take (at + by + i) r ++ take n (drop i m) ++ rest ≡ take (at + by + i) r ++ (take n (drop i m) ++ drop (i + n) m) ++ drop (at + by + len) r =
+    simp append-assoc in
+    rw (t, u, lu, v) (g ∙ ap (λ (x : List ℕ). take (at + by + i) r ++ x ++ drop (at + by + len) r) w)
+
+-- one more is
+pub shifted-turn : (r d : List ℕ) (at len by i : ℕ) → d ≡ shifted r at len by (i + 1) → at + by + len ≤ length r → i < len → length d ≡ length r
+    → set d (at + by + i) (getD d (at + i) 0) ≡ shifted r at len by i
+unfolding over
+shifted-turn r d at len by i e h l n =
+    let a : take 1 (drop (at + i) d) ≡ getD d (at + i) 0 ∷ [] = rw (drop-cons d (at + i) 0 (omega arith)) in
+    sets-eq (getD d (at + i) 0 ∷ []) d (at + by + i) (omega arith)
+    ∙ ap (over d (at + by + i)) (sym a)
+    ∙ shifted-some r d at len by i 1 e h (omega arith)
 
 -- at the end none is left to move
 pub shifted-all : (r d : List ℕ) (at len by i : ℕ) → d ≡ shifted r at len by i → i ≡ 0 → at + by + len ≤ length r

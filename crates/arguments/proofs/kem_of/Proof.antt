@@ -1,7 +1,6 @@
 -- `arguments::kem_of` meets its contract. Assumes nothing.
 use borrow.Author.Needs.{needs}
 use mathlib.Core.Path.{ap, _∙_}
-use Rattle.methods.specs.declared.Method.{Method}
 use Rattle.arguments.specs.Arguments.{wrongBy, kemOf}
 use Rattle.arguments.proofs.ArgumentLaws.{kem-none}
 use Rattle.arguments.proofs.kem_of.Statement.{statement}
@@ -19,17 +18,17 @@ returns-3 : tie.Need-returns-3
 unfolding kemOf
 returns-3 c = rw (c .if3 .taken)
 
-method-of-requires : tie.Need-method-of-requires
-method-of-requires c κs = search needs
+k-form-requires : tie.Need-k-form-requires
+k-form-requires c κs = search needs
 
 wrong-kem-requires : tie.Need-wrong-kem-requires
 wrong-kem-requires c κs = search needs
 
 returns-4 : tie.Need-returns-4
 returns-4 c =
-    kem-none (c .before .before .before .before .before .args .method) _ _ (c .before .before .before .before .if1 .left) (c .before .before .before .if2 .left) (c .before .before .if3 .left) (c .wrong-kem .ensures ∙ ap (λ (m : Method). wrongBy (m .«k_form»)) (c .before .method-of .ensures))
+    kem-none (c .before .before .before .before .before .args .method) _ _ (c .before .before .before .before .if1 .left) (c .before .before .before .if2 .left) (c .before .before .if3 .left) (c .wrong-kem .ensures ∙ ap wrongBy (c .before .k-form .ensures))
 
 pub kem-of-spec : {M : Type 1} → statement M
 kem-of-spec =
     tie.close
-    (tie.spec returns returns-2 returns-3 method-of-requires wrong-kem-requires returns-4)
+    (tie.spec returns returns-2 returns-3 k-form-requires wrong-kem-requires returns-4)

@@ -1,77 +1,81 @@
 -- `client::own_c` meets its contract. Assumes nothing.
 use borrow.Author.Needs.{needs}
-use mathlib.Core.Path.{sym, _∙_}
-use lib.ListN.{length}
+use Prim.Native.Nat.{ℕ}
+use mathlib.Core.Path.{_≡_, refl, ap, _∙_}
+use mathlib.Core.List.{List, [], _∷_}
+use lib.ListN.{length, getD}
 use denote.Ref.{now}
-use Rattle.exchange.specs.Steps.{ownC}
-use Rattle.transitions.proofs.TransitionLaws.{refused-by, output-kept}
-use Rattle.client.proofs.ClientLaws.{own-c-number, own-c-fits, own-c-done}
+use Rattle.limits.specs.Limits.{kSize}
+use Rattle.limits.proofs.BoolLaws.{holds, fails}
+use Rattle.exchange.specs.Steps.{ownC, countOf, secondOf}
+use Rattle.exchange.proofs.StepLaws.{output-refused}
+use Rattle.messages.specs.Messages.{initBytes}
+use Rattle.lent.specs.Lent.{tells}
+use Rattle.lent.proofs.AsStep.{AsStep}
+use Rattle.by_value.proofs.ValueLaws.{storable, laid-bytes, value-long, value-step, count-none, second-none}
 use Rattle.client.proofs.own_c.Statement.{statement}
 use Rattle.client.proofs.own_c.Tie as tie
 
-own-c-cause-requires : tie.Need-own-c-cause-requires
-own-c-cause-requires c κs = search needs
+fits-two-requires : tie.Need-fits-two-requires
+fits-two-requires c κs = search needs
 
-step-number-requires : tie.Need-step-number-requires
-step-number-requires c κs = search needs
+returns : tie.Need-returns
+returns c =
+    let a = c .before .before .before .before .before .before .args in
+    let e = a .e in
+    let r = now (a .room) in
+    let q = ownC (now (a .c)) (length (now (a .out))) in
+    let v = value-long e r q (now (a .out) ∷ []) (fails (c .before .fits-two .ensures) (c .if1 .taken)) in
+    (v .0, v .1, output-refused _ (now (a .out)) (initBytes (now (a .c))) (v .2))
 
-refuse-requires : tie.Need-refuse-requires
-refuse-requires c κs = search needs
+slice-aggregate-store : tie.Need-slice-aggregate-store
+slice-aggregate-store c = search needs
+
+store-requires : tie.Need-store-requires
+store-requires c κs = search needs
+
+slice-aggregate-own-c : tie.Need-slice-aggregate-own-c
+slice-aggregate-own-c c = search needs
+
+own-c-requires : tie.Need-own-c-requires
+own-c-requires c κs = search needs
+
+slice-aggregate-answer : tie.Need-slice-aggregate-answer
+slice-aggregate-answer c = search needs
+
+answer-requires : tie.Need-answer-requires
+answer-requires c κs = search needs
 
 same-length : tie.Need-same-length
 same-length c = search needs
 
-returns : tie.Need-returns
-returns c =
-    let j = c .before .before .before .before .before in
-    let a = j .before .before .before .before .before .args in
-    let m = own-c-number (a .e) (now (a .room)) (now (a .c)) (now (a .out)) _ _ (j .step-number .ensures) (j .before .own-c-cause .ensures) in
-    let r = refused-by (a .e) (now (a .room)) (ownC (now (a .c)) (length (now (a .out)))) _ m (c .before .before .before .before .if1 .taken) _ _ (c .before .before .refuse .ensures) in
-    (r .0, r .1, output-kept (a .e) (now (a .room)) (ownC (now (a .c)) (length (now (a .out)))) _ m (c .before .before .before .before .if1 .taken) (now (a .out)) _)
-
-fields-end-requires : tie.Need-fields-end-requires
-fields-end-requires c κs = search needs
-
-put-field-requires : tie.Need-put-field-requires
-put-field-requires c κs = search needs
-
-put-init-requires : tie.Need-put-init-requires
-put-init-requires c κs =
-    let j = c .before .before .before .before .before .before .before .before .before in
-    let a = j .before .before .before .before .before .args in
-    let m = own-c-number (a .e) (now (a .room)) (now (a .c)) (now (a .out)) _ _ (j .step-number .ensures) (j .before .own-c-cause .ensures) in
-    own-c-fits (a .e) (now (a .room)) (now (a .c)) (now (a .out)) (sym m ∙ c .before .before .before .before .before .before .before .before .if1 .left)
-
-add-t22 : tie.Need-add-t22
-add-t22 c = search needs
-
 same-length-2 : tie.Need-same-length-2
 same-length-2 c = search needs
 
-same-length-3 : tie.Need-same-length-3
-same-length-3 c = search needs
-
 returns-2 : tie.Need-returns-2
+unfolding tells countOf secondOf
 returns-2 c =
-    let j = c .before .before .before .before .before .before .before .before .before .before .before .before in
-    let a = j .before .before .before .before .before .args in
-    let m = own-c-number (a .e) (now (a .room)) (now (a .c)) (now (a .out)) _ _ (j .step-number .ensures) (j .before .own-c-cause .ensures) in
-    own-c-done (a .e) (now (a .room)) (now (a .c)) (now (a .out)) (sym m ∙ c .before .before .before .before .before .before .before .before .before .before .before .if1 .left)
-    _ _ _ (c .before .before .before .before .before .before .before .before .fields-end .ensures) (c .before .before .before .before .before .before .put-field .ensures) (c .before .before .put-init .ensures)
+    let a = c .before .before .before .before .before .before .before .before .before .before .before .before .before .before .before .before .before .before .before .before .before .args in
+    let e = a .e in
+    let r = now (a .room) in
+    let q = ownC (now (a .c)) (length (now (a .out))) in
+    let k : length (e .k) ≡ kSize = search (needs, c .before .before .before .before .before .before .before .before .before .before .before .before .before .before .before .before .before .before .before .before .before .good) in
+    let h = storable e k (holds (c .before .before .before .before .before .before .before .before .before .before .before .before .before .before .before .before .fits-two .ensures) (c .before .before .before .before .before .before .before .before .before .before .before .before .before .before .before .if1 .left)) in
+    let v = value-step e r q (now (a .out) ∷ []) h _ _ _ _ _ _ (laid-bytes e k _ (c .before .before .before .before .before .before .before .before .before .before .before .before .before .store .ensures)) (c .before .before .before .before .before .before .before .own-c .ensures) _ _ (λ (s : AsStep e r q (now (a .out) ∷ []) _ _ _ _ _). (ap (λ (l : List ℕ). getD l 0 0) (s .told-is), second-none e r q refl)) in
+    (c .answer .ensures ∙ v .0, v .1, ap (λ (l : List (List ℕ)). getD l 0 []) (v .2))
 
 pub own-c-spec : {M : Type 1} → statement M
 own-c-spec =
     tie.close
     (tie.spec
-    own-c-cause-requires
-    step-number-requires
-    refuse-requires
-    same-length
+    fits-two-requires
     returns
-    fields-end-requires
-    put-field-requires
-    put-init-requires
-    add-t22
+    slice-aggregate-store
+    store-requires
+    slice-aggregate-own-c
+    own-c-requires
+    slice-aggregate-answer
+    answer-requires
+    same-length
     same-length-2
-    same-length-3
     returns-2)

@@ -1,7 +1,12 @@
 -- `due::step_number` meets its contract. Assumes nothing.
 use borrow.Author.Needs.{needs}
+use Prim.Native.Nat.{ℕ}
+use mathlib.Core.Path.{_≡_, refl}
+use native.Mathlib.Omega.{arith}
+use denote.Ref.{now}
 use Rattle.limits.proofs.BoolLaws.{holds, fails}
-use Rattle.due.proofs.FitLaws.{number-not-due, number-room, number-fed}
+use Rattle.stored.specs.Stored.{decoded}
+use Rattle.due.proofs.FitLaws.{number-room, number-fed, number-on, not-due-on, due-fits}
 use Rattle.due.proofs.step_number.Statement.{statement}
 use Rattle.due.proofs.step_number.Tie as tie
 
@@ -10,18 +15,23 @@ is-due-requires c κs = search needs
 
 returns : tie.Need-returns
 returns c =
-    let a = c .before .before .args in
-    number-not-due (a .n) (a .e) (a .room) (a .fed) (fails (c .before .is-due .ensures) (c .if1 .taken))
+    let b = now (c .before .before .before .args .b) in
+    let a = c .before .before .before .args in
+    (not-due-on b (a .n) (a .room) (a .fed) (fails (c .before .is-due .ensures .0) (c .if1 .taken)), (λ (h : _≡_ {A = ℕ} 1 0). let w : ⊥ = omega arith in absurd w))
 
 returns-2 : tie.Need-returns-2
 returns-2 c =
-    let a = c .before .before .before .args in
-    number-room (a .n) (a .e) (a .room) (a .fed) (holds (c .before .before .is-due .ensures) (c .before .if1 .left)) (c .if2 .taken)
+    let b = now (c .before .before .before .before .args .b) in
+    let a = c .before .before .before .before .args in
+    let d = due-fits b (a .n) (holds (c .before .before .is-due .ensures .0) (c .before .if1 .left)) in
+    (number-on b (d .0) (a .n) (a .room) (a .fed) 3 (number-room (a .n) (decoded b) (a .room) (a .fed) (d .1) (c .if2 .taken)), (λ (h : _≡_ {A = ℕ} 3 0). let w : ⊥ = omega arith in absurd w))
 
 returns-3 : tie.Need-returns-3
 returns-3 c =
-    let a = c .before .before .before .args in
-    number-fed (a .n) (a .e) (a .room) (a .fed) (holds (c .before .before .is-due .ensures) (c .before .if1 .left)) (c .if2 .left)
+    let b = now (c .before .before .before .before .args .b) in
+    let a = c .before .before .before .before .args in
+    let d = due-fits b (a .n) (holds (c .before .before .is-due .ensures .0) (c .before .if1 .left)) in
+    (number-on b (d .0) (a .n) (a .room) (a .fed) _ (number-fed (a .n) (decoded b) (a .room) (a .fed) (d .1) (c .if2 .left)), (λ _. c .before .before .is-due .ensures .1 (holds refl (c .before .if1 .left))))
 
 pub step-number-spec : {M : Type 1} → statement M
 step-number-spec = tie.close (tie.spec is-due-requires returns returns-2 returns-3)

@@ -17,8 +17,8 @@ returns c =
     let a = c .before .before .before .args in
     init-message (a .method) (now (a .payload)) _ (c .before .message-cause .ensures) (c .if1 .taken)
 
-method-of-requires : tie.Need-method-of-requires
-method-of-requires c κs = search needs
+c-shape-requires : tie.Need-c-shape-requires
+c-shape-requires c κs = search needs
 
 string-part-requires : tie.Need-string-part-requires
 string-part-requires c κs = search needs
@@ -31,12 +31,12 @@ length-fits-requires c κs = search needs
 
 returns-2 : tie.Need-returns-2
 returns-2 c =
-    let a = c .before .before .before .before .before .before .before .before .before .args in
+    let a = c .before .before .before .before .before .before .before .before .args in
     let y = now (a .payload) in
-    let z = sym (c .before .before .before .before .before .before .before .message-cause .ensures) ∙ c .before .before .before .before .before .before .if1 .left in
-    let w = c .before .before .before .before .before .method-of .ensures in
+    let z = sym (c .before .before .before .before .before .before .message-cause .ensures) ∙ c .before .before .before .before .before .if1 .left in
+    let w = c .before .before .before .before .c-shape .ensures in
     let v = field-read y 0 _ _ (c .before .before .before .string-part .ensures) (c .before .before .part-of .ensures .0) in
-    let h = c .before .length-fits .ensures ∙ (λ i. lengthFits (w i .c) (length (v i))) in
+    let h = c .before .length-fits .ensures ∙ (λ i. lengthFits (w i) (length (v i))) in
     init-length (a .method) y z (fails h (c .if2 .taken))
 
 lead-fits-requires : tie.Need-lead-fits-requires
@@ -44,24 +44,24 @@ lead-fits-requires c κs = search needs
 
 returns-3 : tie.Need-returns-3
 returns-3 c =
-    let a = c .before .before .before .before .before .before .before .before .before .before .before .args in
+    let a = c .before .before .before .before .before .before .before .before .before .before .args in
     let y = now (a .payload) in
-    let z = sym (c .before .before .before .before .before .before .before .before .before .message-cause .ensures) ∙ c .before .before .before .before .before .before .before .before .if1 .left in
-    let w = c .before .before .before .before .before .before .before .method-of .ensures in
+    let z = sym (c .before .before .before .before .before .before .before .before .message-cause .ensures) ∙ c .before .before .before .before .before .before .before .if1 .left in
+    let w = c .before .before .before .before .before .before .c-shape .ensures in
     let v = field-read y 0 _ _ (c .before .before .before .before .before .string-part .ensures) (c .before .before .before .before .part-of .ensures .0) in
-    let h = c .before .before .before .length-fits .ensures ∙ (λ i. lengthFits (w i .c) (length (v i))) in
-    let k = c .before .lead-fits .ensures ∙ (λ i. leadFits (w i .c) (v i)) in
+    let h = c .before .before .before .length-fits .ensures ∙ (λ i. lengthFits (w i) (length (v i))) in
+    let k = c .before .lead-fits .ensures ∙ (λ i. leadFits (w i) (v i)) in
     init-lead (a .method) y z (holds h (c .before .before .if2 .left)) (fails k (c .if3 .taken))
 
 returns-4 : tie.Need-returns-4
 returns-4 c =
-    let a = c .before .before .before .before .before .before .before .before .before .before .before .args in
+    let a = c .before .before .before .before .before .before .before .before .before .before .args in
     let y = now (a .payload) in
-    let z = sym (c .before .before .before .before .before .before .before .before .before .message-cause .ensures) ∙ c .before .before .before .before .before .before .before .before .if1 .left in
-    let w = c .before .before .before .before .before .before .before .method-of .ensures in
+    let z = sym (c .before .before .before .before .before .before .before .before .message-cause .ensures) ∙ c .before .before .before .before .before .before .before .if1 .left in
+    let w = c .before .before .before .before .before .before .c-shape .ensures in
     let v = field-read y 0 _ _ (c .before .before .before .before .before .string-part .ensures) (c .before .before .before .before .part-of .ensures .0) in
-    let h = c .before .before .before .length-fits .ensures ∙ (λ i. lengthFits (w i .c) (length (v i))) in
-    let k = c .before .lead-fits .ensures ∙ (λ i. leadFits (w i .c) (v i)) in
+    let h = c .before .before .before .length-fits .ensures ∙ (λ i. lengthFits (w i) (length (v i))) in
+    let k = c .before .lead-fits .ensures ∙ (λ i. leadFits (w i) (v i)) in
     init-good (a .method) y z (holds h (c .before .before .if2 .left)) (holds k (c .if3 .left))
 
 pub init-cause-spec : {M : Type 1} → statement M
@@ -70,7 +70,7 @@ init-cause-spec =
     (tie.spec
     message-cause-requires
     returns
-    method-of-requires
+    c-shape-requires
     string-part-requires
     part-of-requires
     length-fits-requires

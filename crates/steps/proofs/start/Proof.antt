@@ -1,42 +1,39 @@
 -- `steps::start` meets its contract. Assumes nothing.
 use borrow.Author.Needs.{needs}
-use native.Mathlib.Omega.{arith}
+use mathlib.Core.Path.{_∙_}
 use denote.Ref.{now}
-use Rattle.steps.proofs.StartLaws.{start-refused, start-fits, start-accepted}
+use Rattle.by_value.proofs.ValueLaws.{start-value}
 use Rattle.steps.proofs.start.Statement.{statement}
 use Rattle.steps.proofs.start.Tie as tie
 
-start-cause-requires : tie.Need-start-cause-requires
-start-cause-requires c κs = search needs
+slice-aggregate-start : tie.Need-slice-aggregate-start
+slice-aggregate-start c = search needs
 
-ended-with-requires : tie.Need-ended-with-requires
-ended-with-requires c κs = search needs
+start-requires : tie.Need-start-requires
+start-requires c κs = search needs
 
-returns : tie.Need-returns
-returns c =
-    let a = c .before .before .before .before .before .before .before .before .args in
-    start-refused (a .role) (a .method) (now (a .vc)) (now (a .vs)) (now (a .ic)) (now (a .is)) (now (a .room)) _ (c .before .before .start-cause .ensures) _ (c .before .if1 .taken) (c .ended-with .ensures)
+slice-aggregate-answer : tie.Need-slice-aggregate-answer
+slice-aggregate-answer c = search needs
 
-put-head-requires : tie.Need-put-head-requires
-put-head-requires c κs =
-    let a = c .before .before .before .before .before .before .before .before .args in
-    start-fits (a .role) (a .method) (now (a .vc)) (now (a .vs)) (now (a .ic)) (now (a .is)) (now (a .room)) _ (c .before .before .start-cause .ensures) (omega arith)
+answer-requires : tie.Need-answer-requires
+answer-requires c κs = search needs
 
 same-length : tie.Need-same-length
 same-length c = search needs
 
-returns-2 : tie.Need-returns-2
-returns-2 c =
-    let a = c .before .before .before .before .before .before .before .before .before .before .before .args in
-    start-accepted (a .role) (a .method) (now (a .vc)) (now (a .vs)) (now (a .ic)) (now (a .is)) (now (a .room)) _ (c .before .before .before .before .before .start-cause .ensures) (omega arith) _ (c .before .before .put-head .ensures)
+returns : tie.Need-returns
+returns c =
+    let a = c .before .before .before .before .before .before .before .before .before .before .before .before .before .args in
+    let v = start-value (a .role) (a .method) (now (a .vc)) (now (a .vs)) (now (a .ic)) (now (a .is)) (now (a .room)) _ _ _ (c .before .before .before .before .before .start .ensures) in
+    (c .answer .ensures ∙ v .0, v .1)
 
 pub start-spec : {M : Type 1} → statement M
 start-spec =
     tie.close
     (tie.spec
-    start-cause-requires
-    ended-with-requires
-    returns
-    put-head-requires
+    slice-aggregate-start
+    start-requires
+    slice-aggregate-answer
+    answer-requires
     same-length
-    returns-2)
+    returns)

@@ -1,44 +1,51 @@
 -- `stored::load` meets its contract. Assumes nothing.
 use borrow.Author.Needs.{needs}
-use mathlib.Core.Path.{_∙_}
+use Prim.Native.Nat.{ℕ}
+use mathlib.Core.Path.{ap, _∙_}
 use denote.Ref.{now}
-use Rattle.stored.proofs.StoredLaws.{loaded-other, loaded-whole}
+use Rattle.limits.specs.Limits.{kSize}
+use Rattle.buffers.specs.Bytes.{zeros, laid}
+use Rattle.stored.proofs.StoredLaws.{loaded-blank, loaded-whole}
 use Rattle.stored.proofs.load.Statement.{statement}
 use Rattle.stored.proofs.load.Tie as tie
 
-none-requires : tie.Need-none-requires
-none-requires c κs = search needs
+slice-aggregate-put-bytes : tie.Need-slice-aggregate-put-bytes
+slice-aggregate-put-bytes c = search needs
+
+k-in-requires : tie.Need-k-in-requires
+k-in-requires c κs = search needs
+
+put-bytes-requires : tie.Need-put-bytes-requires
+put-bytes-requires c κs = search needs
+
+lengths-in-requires : tie.Need-lengths-in-requires
+lengths-in-requires c κs = search needs
 
 returns : tie.Need-returns
-returns c = c .none .ensures ∙ loaded-other (now (c .before .before .before .args .b)) (c .before .if1 .taken)
+returns c = loaded-blank (now (c .before .before .before .before .before .before .before .args .b)) _ _ (c .before .lengths-in .ensures .0) (c .before .before .before .put-bytes .ensures ∙ ap (laid (zeros kSize) 0) (c .before .before .before .before .k-in .ensures)) (c .if1 .taken)
 
-shared-slice-read-marks-fit : tie.Need-shared-slice-read-marks-fit
-shared-slice-read-marks-fit c = search needs
+stage-in-requires : tie.Need-stage-in-requires
+stage-in-requires c κs = search needs
 
-shared-slice-read-marks-fit-2 : tie.Need-shared-slice-read-marks-fit-2
-shared-slice-read-marks-fit-2 c = search needs
+shared-slice-read-t14 : tie.Need-shared-slice-read-t14
+shared-slice-read-t14 c = search needs
 
-shared-slice-read-marks-fit-3 : tie.Need-shared-slice-read-marks-fit-3
-shared-slice-read-marks-fit-3 c = search needs
-
-marks-fit-requires : tie.Need-marks-fit-requires
-marks-fit-requires c κs = search needs
-
-decode-requires : tie.Need-decode-requires
-decode-requires c κs = search needs
+shared-slice-read-t16 : tie.Need-shared-slice-read-t16
+shared-slice-read-t16 c = search needs
 
 returns-2 : tie.Need-returns-2
-returns-2 c = loaded-whole (now (c .before .before .before .before .before .before .before .args .b)) _ _ (c .before .before .before .before .before .if1 .left) (c .before .marks-fit .ensures) (c .decode .ensures)
+returns-2 c = loaded-whole (now (c .before .before .before .before .before .before .before .before .before .before .args .b)) _ _ (c .before .before .before .before .lengths-in .ensures .0) (c .before .before .before .before .before .before .put-bytes .ensures ∙ ap (laid (zeros kSize) 0) (c .before .before .before .before .before .before .before .k-in .ensures)) _ (c .before .before .before .if1 .left) (c .before .before .stage-in .ensures)
 
 pub load-spec : {M : Type 1} → statement M
 load-spec =
     tie.close
     (tie.spec
-    none-requires
+    slice-aggregate-put-bytes
+    k-in-requires
+    put-bytes-requires
+    lengths-in-requires
     returns
-    shared-slice-read-marks-fit
-    shared-slice-read-marks-fit-2
-    shared-slice-read-marks-fit-3
-    marks-fit-requires
-    decode-requires
+    stage-in-requires
+    shared-slice-read-t14
+    shared-slice-read-t16
     returns-2)

@@ -1,0 +1,55 @@
+-- What one call on an exchange's bytes is, by the step's definitions. Assumes nothing.
+use Prim.Native.Nat.{ℕ}
+use mathlib.Core.Path.{_≡_, refl, sym, ap, _∙_}
+use mathlib.Core.List.{List}
+use Rattle.exchange.specs.Record.{ended}
+use Rattle.exchange.specs.Numbers.{Kind, accepted, refused, fault, kind, byKind}
+use Rattle.exchange.specs.Steps.{Call, number, taken, exchangeAfter, roomAfter}
+use Rattle.exchange.specs.declared.Exchange.{Exchange}
+use Rattle.stored.specs.Stored.{encoded}
+use Rattle.lent.specs.Lent.{Left, left, tells, toldSize, writes, outputsAfter, bytesAfter, stepLeft, untouched, lentCall}
+use Rattle.lent.proofs.Kept.{Storable, lent-is-step}
+
+-- a call that answered n, told, and left these bytes, on the bytes of x
+pub record AsStep (x : Exchange) (room : List ℕ) (q : Call) (outs : List (List ℕ)) (n : ℕ) (told ex room′ : List ℕ) (outs′ : List (List ℕ)) : Type 0 where
+  pub number-is : n ≡ number x room q
+  pub told-is : told ≡ tells x room q
+  pub exchange-is : ex ≡ encoded (exchangeAfter x room q)
+  pub room-is : room′ ≡ roomAfter x room q
+  pub outputs-are : outs′ ≡ outputsAfter (number x room q) outs (writes x room q)
+
+-- an exchange's bytes after a call are those of the exchange after it
+bytes-after : (x : Exchange) (room : List ℕ) (q : Call) → bytesAfter (encoded x) x room q ≡ encoded (exchangeAfter x room q)
+unfolding bytesAfter exchangeAfter
+bytes-after x room q = by-kind (kind (number x room q))
+  where
+    by-kind : (k : Kind) → byKind k (encoded (taken x q)) (encoded x) (encoded (ended (number x room q) (x .role) (x .method)))
+        ≡ encoded (byKind k (taken x q) x (ended (number x room q) (x .role) (x .method)))
+    by-kind accepted = refl
+    by-kind refused = refl
+    by-kind fault = refl
+
+-- what the step leaves, in bytes
+abbrev pub byStep : Exchange → List ℕ → Call → List (List ℕ) → Left
+byStep x room q outs =
+    left (number x room q) (tells x room q) (encoded (exchangeAfter x room q)) (roomAfter x room q) (outputsAfter (number x room q) outs (writes x room q))
+
+-- a call that did as the step does, did what the contract says
+pub as-called : (x : Exchange) (room : List ℕ) (q : Call) (outs : List (List ℕ)) → Storable x → byStep x room q outs ≡ lentCall (encoded x) room q outs
+unfolding lentCall stepLeft
+as-called x room q outs h =
+    ap (λ (ex : List ℕ). left (number x room q) (tells x room q) ex (roomAfter x room q) (outputsAfter (number x room q) outs (writes x room q))) (sym (bytes-after x room q))
+    ∙ sym (lent-is-step (λ (y : Exchange). stepLeft (encoded x) y room q outs) (untouched (encoded x) room (toldSize q) outs) x h)
+
+-- and the other way round
+pub as-step : (b : List ℕ) (x : Exchange) (room : List ℕ) (q : Call) (outs : List (List ℕ)) (n : ℕ) (told ex room′ : List ℕ) (outs′ : List (List ℕ))
+    → b ≡ encoded x → Storable x → left n told ex room′ outs′ ≡ lentCall b room q outs → AsStep x room q outs n told ex room′ outs′
+as-step b x room q outs n told ex room′ outs′ e h l =
+    let k : left n told ex room′ outs′ ≡ byStep x room q outs = l ∙ ap (λ (y : List ℕ). lentCall y room q outs) e ∙ sym (as-called x room q outs h) in
+    record {
+      number-is = ap (λ (y : Left). y .number) k;
+      told-is = ap (λ (y : Left). y .told) k;
+      exchange-is = ap (λ (y : Left). y .exchange) k;
+      room-is = ap (λ (y : Left). y .room) k;
+      outputs-are = ap (λ (y : Left). y .outputs) k;
+    }

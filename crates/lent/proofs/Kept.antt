@@ -1,0 +1,160 @@
+-- An exchange that the lent bytes hold stays one through every step, so that the next call finds what the last one answered. Assumes nothing.
+use Prim.Native.Nat.{ℕ, _<_}
+use mathlib.Core.Path.{_≡_, refl, sym, ap, _∙_}
+use mathlib.Core.List.{List}
+use mathlib.Core.Bool.{Bool, true, false, cond}
+use native.Mathlib.Omega.{arith}
+use lib.ListN.{length, length-drop}
+use lib.Dec.{eqb}
+use borrow.Author.Tests.{eqb-true}
+use Rattle.limits.specs.Limits.{versionMost, kexinitMost, blobMost, kSize, server}
+use Rattle.limits.proofs.RangeLaws.{within-most}
+use Rattle.buffers.specs.Bytes.{Bytes, zeros}
+use Rattle.buffers.proofs.ByteLaws.{length-onto}
+use Rattle.wire.proofs.CauseLaws.{unless-fails}
+use Rattle.methods.specs.Rows.{rowOf}
+use Rattle.methods.proofs.FormLaws.{length-most}
+use Rattle.messages.specs.Messages.{fieldOf}
+use Rattle.exchange.specs.Causes.{methodOk, ownOk, startCause, kOf}
+use Rattle.exchange.specs.Record.{noLengths, ended, due}
+use Rattle.exchange.specs.Numbers.{isFault, accepted, refused, fault, kind, byKind}
+use Rattle.exchange.specs.Steps.{Call, ownC, init, reply, secret, sign, verdict, stepNo, fedCause, stepNumber, number, withC, withS, kRecord, taken, exchangeAfter, started}
+use Rattle.exchange.specs.declared.Lengths.{Lengths}
+use Rattle.exchange.specs.declared.Exchange.{Exchange}
+use Rattle.exchange.proofs.CauseFacts.{FormedC, FormedS, Blob, method-row, start-known, own-c-formed, init-formed, reply-formed, secret-known, own-formed, key-sized}
+use Rattle.exchange.proofs.StepLaws.{step-known, bounded, small}
+use Rattle.exchange.proofs.DueLaws.{due-known}
+use Rattle.stored.specs.Stored.{encoded, fits, decoded, byFit}
+use Rattle.stored.proofs.StoredLaws.{fits-known}
+use Rattle.stored.proofs.RoundTrip.{Short, decoded-encoded, encoded-fits, decoded-short}
+
+-- the lent bytes hold it
+pub record Storable (x : Exchange) : Type 0 where
+  pub short : Short (x .lens)
+  pub k-size : length (x .k) ≡ kSize
+
+-- ---- lengths that a step brings
+
+short-c : (l : Lengths) (n : ℕ) → Short l → n < 65536 → Short (withC l n)
+short-c l n h k = record { vc = h .vc; vs = h .vs; ic = h .ic; is = h .is; ks = h .ks; c = k; s = h .s }
+
+short-s : (l : Lengths) (m n : ℕ) → Short l → m < 65536 → n < 65536 → Short (withS l m n)
+short-s l m n h j k = record { vc = h .vc; vs = h .vs; ic = h .ic; is = h .is; ks = j; c = h .c; s = k }
+
+c-short : (m : ℕ) (c : List ℕ) → methodOk m ≡ true → FormedC m c → length c < 65536
+c-short m c o z = let h = length-most (rowOf m .c) (length c) (z .len) in omega (arith, method-row m o .c-most)
+
+s-short : (m : ℕ) (s : List ℕ) → methodOk m ≡ true → FormedS m s → length s < 65536
+s-short m s o z = let h = length-most (rowOf m .s) (length s) (z .len) in omega (arith, method-row m o .s-most)
+
+blob-short : (ks : List ℕ) → Blob ks → length ks < 65536
+blob-short ks z = let h = within-most 1 blobMost (length ks) (z .ok) in omega arith
+
+-- ---- an accepted step
+
+module _ (e : Exchange) (o : methodOk (e .method) ≡ true) where
+  taken-short : (q : Call) → fedCause (e .role) (e .method) q ≡ 0 → Short (e .lens) → Short (taken e q .lens)
+  unfolding taken fedCause
+  taken-short (ownC c out) z h = short-c (e .lens) (length c) h (c-short (e .method) c o (own-c-formed (e .method) c out z))
+  taken-short (init p) z h = short-c (e .lens) (length (fieldOf p 0)) h (c-short (e .method) (fieldOf p 0) o (init-formed (e .method) p z .1))
+  taken-short (reply p) z h =
+      let a = reply-formed (e .method) p z in
+      short-s (e .lens) (length (fieldOf p 0)) (length (fieldOf p 1)) h (blob-short (fieldOf p 0) (a .1)) (s-short (e .method) (fieldOf p 1) o (a .2))
+  taken-short (secret cl x kem d ks s) z h = by-role (eqb (e .role) server) refl
+    where
+      by-role : (t : Bool) → eqb (e .role) server ≡ t → Short (cond t (withS (e .lens) (length ks) (length s)) (e .lens))
+      by-role true w =
+          let k = secret-known (e .role) (e .method) cl x kem d ks s z .3 in
+          let a = own-formed (e .method) ks s (ap (λ (r : ℕ). ownOk r (rowOf (e .method)) ks s) (sym (eqb-true (e .role) server w)) ∙ k) in
+          short-s (e .lens) (length ks) (length s) h (blob-short ks (a .0)) (s-short (e .method) s o (a .1))
+      by-role false w = h
+  taken-short (sign g out kOut) z h = h
+  taken-short (verdict a b kOut) z h = h
+
+  taken-k : (q : Call) → fedCause (e .role) (e .method) q ≡ 0 → length (e .k) ≡ kSize → length (taken e q .k) ≡ kSize
+  unfolding taken fedCause kRecord
+  taken-k (ownC c out) z h = h
+  taken-k (init p) z h = h
+  taken-k (reply p) z h = h
+  taken-k (secret cl x kem d ks s) z h =
+      let k = kOf (e .method) x d in
+      let a = key-sized (e .role) (e .method) cl x kem d ks s o z .most in
+      length-onto (zeros kSize) k (omega (arith, method-row (e .method) o .k-most))
+  taken-k (sign g out kOut) z h = h
+  taken-k (verdict a b kOut) z h = h
+
+-- ---- every step, and the start
+
+none-short : Short noLengths
+none-short = record { vc = omega arith; vs = omega arith; ic = omega arith; is = omega arith; ks = omega arith; c = omega arith; s = omega arith }
+
+pub ended-storable : (n role m : ℕ) → Storable (ended n role m)
+unfolding ended
+ended-storable n role m = record { short = none-short; k-size = refl }
+
+pub step-storable : (e : Exchange) (room : List ℕ) (q : Call) → Storable e → Storable (exchangeAfter e room q)
+unfolding exchangeAfter kind
+step-storable e room q h = by-tests (eqb (number e room q) 0) (isFault (number e room q)) refl
+  where
+    by-tests : (a b : Bool) → eqb (number e room q) 0 ≡ a
+        → Storable (byKind (cond a accepted (cond b fault refused)) (taken e q) e (ended (number e room q) (e .role) (e .method)))
+    by-tests true b w =
+        let k = step-known e room q (eqb-true (number e room q) 0 w) in
+        record { short = taken-short e (k .0 .method-ok) q (k .2) (h .short); k-size = taken-k e (k .0 .method-ok) q (k .2) (h .k-size) }
+    by-tests false true w = ended-storable (number e room q) (e .role) (e .method)
+    by-tests false false w = h
+
+pub start-storable : (role m : ℕ) (vc vs ic is : List ℕ) (room : ℕ) → Storable (started role m vc vs ic is room .exchange)
+unfolding started
+start-storable role m vc vs ic is room = by-test (eqb (startCause role m vc vs ic is room) 0) refl
+  where
+    by-test : (t : Bool) → eqb (startCause role m vc vs ic is room) 0 ≡ t → Storable (started role m vc vs ic is room .exchange)
+    by-test true w =
+        let b = start-known role m vc vs ic is room (eqb-true (startCause role m vc vs ic is room) 0 w) .2 in
+        let v = within-most 1 versionMost (length vc) (b .vc-ok) in
+        let x = within-most 1 versionMost (length vs) (b .vs-ok) in
+        let y = within-most 1 kexinitMost (length ic) (b .ic-ok) in
+        let z = within-most 1 kexinitMost (length is) (b .is-ok) in
+        rw w (record {
+          short = record { vc = omega arith; vs = omega arith; ic = omega arith; is = omega arith; ks = omega arith; c = omega arith; s = omega arith };
+          k-size = refl;
+        })
+    by-test false w = rw w (ended-storable (startCause role m vc vs ic is room) 0 0)
+
+-- ---- what a host meets
+
+-- bytes that fit hold such an exchange
+pub decoded-storable : (b : List ℕ) → Bytes b → fits b ≡ true → Storable (decoded b)
+unfolding decoded
+decoded-storable b y h =
+    let n = fits-known b h .0 in
+    record { short = decoded-short b y; k-size = omega (arith, length-drop 19 b) }
+
+-- on an exchange's bytes an export answers and leaves what the step does by value
+pub lent-is-step : {A : Type 0} (F : Exchange → A) (old : A) (x : Exchange) → Storable x → byFit (encoded x) (F (decoded (encoded x))) old ≡ F x
+unfolding byFit
+lent-is-step F old x h = rw (encoded-fits x (h .k-size), decoded-encoded x (h .short))
+
+-- no step is due on an exchange that the bytes cannot hold for a length
+pub long-not-due : (n : ℕ) (e : Exchange) → ¬ Short (e .lens) → due n e ≡ false
+long-not-due n e h = by-test (due n e) refl
+  where
+    by-test : (t : Bool) → due n e ≡ t → t ≡ false
+    by-test false w = refl
+    by-test true w =
+        let d = due-known n e w in
+        let b = small (rowOf (e .method)) (e .lens) (method-row (e .method) (d .method-ok)) (bounded (rowOf (e .method)) (e .stage) (e .lens) (d .lengths)) in
+        absurd (h (record {
+          vc = omega (arith, b .vc);
+          vs = omega (arith, b .vs);
+          ic = omega (arith, b .ic);
+          is = omega (arith, b .is);
+          ks = omega (arith, b .ks);
+          c = omega (arith, b .c);
+          s = omega (arith, b .s);
+        }))
+
+-- so it is answered 1 by every step: a host loses nothing
+pub long-refused : (e : Exchange) (room : List ℕ) (q : Call) → ¬ Short (e .lens) → number e room q ≡ 1
+unfolding number stepNumber
+long-refused e room q h = unless-fails (due (stepNo q) e) 1 _ (long-not-due (stepNo q) e h)

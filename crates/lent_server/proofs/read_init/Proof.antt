@@ -1,0 +1,92 @@
+-- `lent_server::read_init` meets its contract. Assumes nothing.
+use borrow.Author.Needs.{needs}
+use mathlib.Core.Path.{refl, sym, ap, _∙_}
+use mathlib.Core.List.{[], _∷_}
+use lib.ListN.{length}
+use denote.Ref.{now}
+use Rattle.judge_peer.proofs.PeerLaws.{field-read}
+use Rattle.exchange.specs.Steps.{init}
+use Rattle.exchange.specs.declared.Stage.the-variants.{InitRead}
+use Rattle.stored.specs.Stored.{decoded}
+use Rattle.lent.proofs.LentLaws.{number-lent, call-refused, call-accepted, opened, c-changed}
+use Rattle.lent_server.proofs.ServerLaws.{init-fed, init-room, init-taken, init-tells}
+use Rattle.lent_server.proofs.read_init.Statement.{statement}
+use Rattle.lent_server.proofs.read_init.Tie as tie
+
+byte-in-requires : tie.Need-byte-in-requires
+byte-in-requires c κs = search needs
+
+init-cause-requires : tie.Need-init-cause-requires
+init-cause-requires c κs = search needs
+
+step-number-requires : tie.Need-step-number-requires
+step-number-requires c κs = search needs
+
+refuse-requires : tie.Need-refuse-requires
+refuse-requires c κs = search needs
+
+same-length : tie.Need-same-length
+same-length c = search needs
+
+same-length-2 : tie.Need-same-length-2
+same-length-2 c = search needs
+
+returns : tie.Need-returns
+returns c =
+    let a = c .before .before .before .before .before .before .before .before .before .before .before .before .before .before .before .before .before .args in
+    let b = now (a .ex) in
+    let r = now (a .room) in
+    let q = init (now (a .payload)) in
+    let m = number-lent b r q [] _ _ (c .before .before .before .before .before .before .before .before .step-number .ensures .0) (init-fed b (now (a .payload)) _ _ (c .before .before .before .before .before .before .before .before .before .before .before .byte-in .ensures) (c .before .before .before .before .before .before .before .before .before .before .init-cause .ensures)) in
+    call-refused b r q ([]) _ m (c .before .before .before .before .before .before .before .if1 .taken) _ _ _ (c .before .before .before .before .refuse .ensures .0) (c .before .before .before .before .refuse .ensures .1) (c .before .before .before .before .refuse .ensures .2)
+
+string-part-requires : tie.Need-string-part-requires
+string-part-requires c κs = search needs
+
+part-of-requires : tie.Need-part-of-requires
+part-of-requires c κs = search needs
+
+with-c-requires : tie.Need-with-c-requires
+with-c-requires c κs = search needs
+
+same-length-3 : tie.Need-same-length-3
+same-length-3 c = search needs
+
+same-length-4 : tie.Need-same-length-4
+same-length-4 c = search needs
+
+returns-2 : tie.Need-returns-2
+returns-2 c =
+    let a = c .before .before .before .before .before .before .before .before .before .before .before .before .before .before .before .before .before .before .before .before .args in
+    let b = now (a .ex) in
+    let r = now (a .room) in
+    let q = init (now (a .payload)) in
+    let m = number-lent b r q [] _ _ (c .before .before .before .before .before .before .before .before .before .before .before .step-number .ensures .0) (init-fed b (now (a .payload)) _ _ (c .before .before .before .before .before .before .before .before .before .before .before .before .before .before .byte-in .ensures) (c .before .before .before .before .before .before .before .before .before .before .before .before .before .init-cause .ensures)) in
+    let o = opened b r q _ m (c .before .before .before .before .before .before .before .before .before .before .before .step-number .ensures .1) (c .before .before .before .before .before .before .before .before .before .before .if1 .left) in
+    let e = decoded b in
+    let z = o .accepts in
+    let p = now (a .payload) in
+    let f = field-read p 0 _ _ (c .before .before .before .before .before .before .before .before .before .string-part .ensures) (c .before .before .before .before .before .before .part-of .ensures .0) in
+    call-accepted b r q [] (o .fitting) z _ _ _ _
+    (init-tells e r p z _ (c .before .before .before .before .before .before .before .before .before .string-part .ensures))
+    (c-changed b r q o InitRead _ _ refl (c .before .before .before .before .before .with-c .ensures .0) ∙ init-taken e r p z _ f)
+    (c .before .before .before .before .before .with-c .ensures .1 ∙ init-room e r p z _ _ (o .lens-are) f)
+    refl
+
+pub read-init-spec : {M : Type 1} → statement M
+read-init-spec =
+    tie.close
+    (tie.spec
+    byte-in-requires
+    init-cause-requires
+    step-number-requires
+    refuse-requires
+    same-length
+    same-length-2
+    returns
+    string-part-requires
+    part-of-requires
+    with-c-requires
+    same-length-3
+    same-length-4
+    returns-2)

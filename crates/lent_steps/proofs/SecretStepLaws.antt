@@ -1,0 +1,334 @@
+-- What the secret step owes at its returns, and what it knows where it is accepted. Assumes nothing.
+use Prim.Native.Nat.{ℕ, _+_, _≤_, _-_}
+use mathlib.Core.Path.{_≡_, refl, sym, ap, _∙_}
+use mathlib.Core.List.{List, [], _∷_, _++_}
+use mathlib.Core.Bool.{Bool, true, false, cond}
+use native.Mathlib.Omega.{arith}
+use lib.Dec.{eqb}
+use lib.ListN.{length, getD, set, length-append, take, drop, length-drop, length-replicate}
+use lib.Seq.{length-take-le}
+use borrow.Author.Tests.{le-leb, eq-eqb, ne-eqb, eqb-true, eqb-false}
+use Rattle.limits.specs.Limits.{blobMost, kSize, exchangeSize, roomLeast, server}
+use Rattle.limits.proofs.RangeLaws.{within-most}
+use Rattle.buffers.specs.Bytes.{zeros, onto, over, laid}
+use Rattle.buffers.proofs.ByteLaws.{length-over, over-over, laid-fits}
+use Rattle.wire.specs.Parts.{part, inside, bytesAt}
+use Rattle.wire.proofs.PartLaws.{inside-fits}
+use Rattle.methods.specs.Rows.{rowOf, kMost}
+use Rattle.methods.proofs.FormLaws.{length-most}
+use Rattle.methods.specs.declared.KForm.{KForm}
+use Rattle.methods.specs.Sound.{Sound}
+use Rattle.secret.specs.Secret.{kBytes, kept}
+use Rattle.secret.specs.declared.Secret.{Secret}
+use Rattle.secret.proofs.SecretLaws.{kept-fits, drop-zeros}
+use Rattle.transcript.specs.Fields.{field, fieldLength, around, fieldSize}
+use Rattle.transcript.proofs.RoomLaws.{length-field, take-onto}
+use Rattle.exchange.specs.Causes.{secretCause, ownOk, kOf}
+use Rattle.exchange.specs.Record.{noLengths}
+use Rattle.exchange.specs.Steps.{Call, fedCause, number, headEnd, fieldsEnd, standingC, filled, withS, taken, countOf, secondOf, answered, roomAfter, secret, kRecord, withStage, headSize, fieldsSize}
+use Rattle.exchange.specs.declared.Stage.the-variants.{SecretDone}
+use Rattle.exchange.specs.declared.Exchange.{Exchange}
+use Rattle.exchange.specs.declared.Step.{Step}
+use Rattle.exchange.proofs.CauseFacts.{method-row, secret-known, own-formed, key-sized}
+use Rattle.exchange.specs.declared.Lengths.{Lengths}
+use Rattle.exchange.proofs.StepLaws.{bounded, small, step-known, step-accepted, Bounded, all-most, size-fits, head-fits, fields-fits, Small}
+use Rattle.exchange.specs.declared.Classical.{Classical}
+use Rattle.exchange.specs.declared.Kem.{Kem}
+use Rattle.stored.specs.Stored.{encoded, lengthsIn, decoded, bySize}
+use Rattle.stored.specs.Changes.{put16}
+use Rattle.stored.proofs.StoredLaws.{size-taken, fits-known}
+use Rattle.stored.proofs.RoundTrip.{Short, decoded-encoded, encoded-fits}
+use Rattle.lent.specs.Lent.{counts, tells, lengthsOf}
+use Rattle.lent.proofs.LentLaws.{role-read, method-read, Opened, s-changed, k-changed}
+
+-- ---- K and its record
+
+-- the record that `kept` gives
+record-kept : (k : List ℕ) → length k ≤ kSize → k ++ zeros (kSize - length k) ≡ kRecord k
+unfolding kRecord onto
+record-kept k h = ap (λ (z : List ℕ). k ++ z) (sym (drop-zeros (length k) kSize h))
+
+-- it is whole
+pub length-record : (k : List ℕ) → length k ≤ kSize → length (kRecord k) ≡ kSize
+unfolding kRecord onto
+length-record k h =
+    let a = length-append k (drop (length k) (zeros kSize)) in
+    let b = length-drop (length k) (zeros kSize) in
+    let c = length-replicate {A = ℕ} kSize 0 in
+    omega arith
+
+-- K stands at the record's beginning
+record-begins : (k : List ℕ) → take (length k) (kRecord k) ≡ k
+unfolding kRecord
+record-begins k = take-onto (zeros kSize) k
+
+record-part : (k : List ℕ) → length k ≤ kSize → bytesAt (kRecord k) (inside (length (kRecord k)) (part 0 (length k))) ≡ k
+record-part k h =
+    let l = length-record k h in
+    ap (bytesAt (kRecord k)) (inside-fits (length (kRecord k)) (part 0 (length k)) (omega arith)) ∙ record-begins k
+
+-- what is handed on as K, by what `k_of` gave
+key-part : (k : List ℕ) (len : ℕ) (bytes src : List ℕ) → length k ≤ kSize → len ≡ length k → bytes ≡ kRecord k
+    → src ≡ bytesAt bytes (inside (length bytes) (part 0 len)) → src ≡ k
+key-part k len bytes src h l b f = f ∙ (λ i. bytesAt (b i) (inside (length (b i)) (part 0 (l i)))) ∙ record-part k h
+
+-- what `k_of` gave
+pub key-kept : (m : ℕ) (w : KForm) (g : Secret) (x d : List ℕ) → length (kOf m x d) ≤ kSize → w ≡ rowOf m .«k_form» → g ≡ kept (kBytes w x d)
+    → (g .len ≡ length (kOf m x d)) × (g .bytes ≡ kRecord (kOf m x d))
+key-kept m w g x d h r f =
+    let e : g ≡ record { number = 0; len = length (kOf m x d); bytes = kOf m x d ++ zeros (kSize - length (kOf m x d)) } =
+    f ∙ ap (λ (v : KForm). kept (kBytes v x d)) r ∙ sym (kept-fits (kOf m x d) h) in
+    (ap (λ (v : Secret). v .len) e, ap (λ (v : Secret). v .bytes) e ∙ record-kept (kOf m x d) h)
+
+-- ---- the room
+
+-- fields around C, and K behind them
+room-server : (l : Lengths) (room ks s k : List ℕ) → fieldsEnd (withS l (length ks) (length s)) + length k ≤ length room
+    → laid (around room (headEnd l) (fieldLength (l .c)) ks s) (fieldsEnd (withS l (length ks) (length s))) k
+    ≡ over room (headEnd l) (field ks ++ standingC l room ++ field s ++ k)
+unfolding around
+room-server l room ks s k h =
+    let a = length-field ks in
+    let b = length-field s in
+    let f = length-drop (headEnd l) room in
+    let c : length (standingC l room) ≡ fieldLength (l .c) = length-take-le (fieldLength (l .c)) (drop (headEnd l) room) (omega arith) in
+    let p : List ℕ = field ks ++ standingC l room ++ field s in
+    let n : headEnd l + length p ≡ fieldsEnd (withS l (length ks) (length s)) = omega (arith, length-append (field ks ++ standingC l room) (field s), length-append (field ks) (standingC l room)) in
+    let g : headEnd l + length p ≤ length room = omega arith in
+    let o = length-over room (headEnd l) p g in
+    rw (le-leb (headEnd l + length (field ks) + fieldLength (l .c) + length (field s)) (length room) (omega arith))
+    (laid-fits (over room (headEnd l) p) (fieldsEnd (withS l (length ks) (length s))) k (omega arith)
+    ∙ ap (λ (j : ℕ). over (over room (headEnd l) p) j k) (sym n)
+    ∙ over-over room (headEnd l) p k g)
+
+-- ---- the step
+
+-- what it knows where it is accepted
+pub record SecretFits (e : Exchange) (room x d : List ℕ) : Type 0 where
+  pub row : Sound (rowOf (e .method))
+  pub bounds : Bounded (rowOf (e .method)) (e .lens)
+  pub sums : Small (e .lens)
+  pub room-least : roomLeast ≤ length room
+  pub k-row : length (kOf (e .method) x d) ≤ 4 + kMost (rowOf (e .method))
+  pub k-fits : length (kOf (e .method) x d) ≤ kSize
+  pub all-fits : fieldsEnd (e .lens) + length (kOf (e .method) x d) ≤ roomLeast
+
+-- and a server beside: K_S and S are of the method's lengths
+pub record ServerFits (e : Exchange) (x d ks s : List ℕ) : Type 0 where
+  pub sums : Small (withS (e .lens) (length ks) (length s))
+  pub all-fits : fieldsEnd (withS (e .lens) (length ks) (length s)) + length (kOf (e .method) x d) ≤ roomLeast
+
+module _ (e : Exchange) (room : List ℕ) (cl : Classical) (x : List ℕ) (kem : Kem) (d ks s : List ℕ) where
+  cause-none : number e room (secret cl x kem d ks s) ≡ 0 → secretCause (e .role) (e .method) cl x kem d ks s ≡ 0
+  unfolding fedCause
+  cause-none z = step-known e room (secret cl x kem d ks s) z .2
+
+  module _ (z : number e room (secret cl x kem d ks s) ≡ 0) where
+    -- lengths and K are within their bounds
+    pub secret-fits : SecretFits e room x d
+    secret-fits =
+        let a = step-known e room (secret cl x kem d ks s) z in
+        let r = method-row (e .method) (a .0 .method-ok) in
+        let b = bounded (rowOf (e .method)) (e .stage) (e .lens) (a .0 .lengths) in
+        let k = key-sized (e .role) (e .method) cl x kem d ks s (a .0 .method-ok) (cause-none z) .most in
+        record {
+          row = r;
+          bounds = b;
+          sums = small (rowOf (e .method)) (e .lens) r b;
+          room-least = a .1;
+          k-row = k;
+          k-fits = omega (arith, r .k-most);
+          all-fits = all-most (rowOf (e .method)) (e .lens) r b (length (kOf (e .method) x d)) k;
+        }
+
+    -- and so are the lengths with K_S and S
+    pub server-fits : e .role ≡ server → ServerFits e x d ks s
+    server-fits h =
+        let f = secret-fits in
+        let o = own-formed (e .method) ks s (ap (λ (r : ℕ). ownOk r (rowOf (e .method)) ks s) (sym h) ∙ secret-known (e .role) (e .method) cl x kem d ks s (cause-none z) .3) in
+        let b : Bounded (rowOf (e .method)) (withS (e .lens) (length ks) (length s)) = record {
+          vc = f .bounds .vc;
+          vs = f .bounds .vs;
+          ic = f .bounds .ic;
+          is = f .bounds .is;
+          ks = within-most 1 blobMost (length ks) (o .0 .ok);
+          c = f .bounds .c;
+          s = length-most (rowOf (e .method) .s) (length s) (o .1 .len);
+        } in
+        record {
+          sums = small (rowOf (e .method)) (withS (e .lens) (length ks) (length s)) (f .row) b;
+          all-fits = all-most (rowOf (e .method)) (withS (e .lens) (length ks) (length s)) (f .row) b (length (kOf (e .method) x d)) (f .k-row);
+        }
+
+    -- the exchange, the counts and the room of an accepted step, by the role
+    taken-client : (e .role ≡ server → ⊥) → withStage e SecretDone (e .lens) (kRecord (kOf (e .method) x d)) ≡ taken e (secret cl x kem d ks s)
+    unfolding taken
+    taken-client h = rw (ne-eqb (e .role) server h)
+
+    taken-server : e .role ≡ server → withStage e SecretDone (withS (e .lens) (length ks) (length s)) (kRecord (kOf (e .method) x d)) ≡ taken e (secret cl x kem d ks s)
+    unfolding taken
+    taken-server h = rw (eq-eqb (e .role) server h)
+
+    count-is : (l : Lengths) (k : List ℕ) → withStage e SecretDone l k ≡ taken e (secret cl x kem d ks s)
+        → fieldsEnd l + length (kOf (e .method) x d) ≡ countOf e room (secret cl x kem d ks s)
+    unfolding countOf
+    count-is l k t = ap (λ (y : Exchange). fieldsEnd (y .lens) + length (kOf (e .method) x d)) t
+
+    second-is : 0 ≡ secondOf e (secret cl x kem d ks s)
+    unfolding secondOf
+    second-is = refl
+
+    answer : (l : Lengths) (end len : ℕ) (bytes : List ℕ) → withStage e SecretDone l (kRecord (kOf (e .method) x d)) ≡ taken e (secret cl x kem d ks s)
+        → end ≡ fieldsEnd l → len ≡ length (kOf (e .method) x d) → bytes ≡ kRecord (kOf (e .method) x d)
+        → _≡_ {A = Step} (record { number = 0; count = end + len; second = 0; exchange = withStage e SecretDone l bytes }) (answered e room (secret cl x kem d ks s))
+    answer l end len bytes t f g b =
+        let c : end + len ≡ countOf e room (secret cl x kem d ks s) = (λ i. f i + g i) ∙ count-is l (kRecord (kOf (e .method) x d)) t in
+        let y : withStage e SecretDone l bytes ≡ taken e (secret cl x kem d ks s) = ap (withStage e SecretDone l) b ∙ t in
+        (λ i. record { number = 0; count = c i; second = second-is i; exchange = y i }) ∙ step-accepted e room (secret cl x kem d ks s) z .0
+
+    filled-client : (e .role ≡ server → ⊥) → over room (fieldsEnd (e .lens)) (kOf (e .method) x d) ≡ filled e room (secret cl x kem d ks s)
+    unfolding filled
+    filled-client h = rw (ne-eqb (e .role) server h)
+
+    filled-server : e .role ≡ server
+        → over room (headEnd (e .lens)) (field ks ++ standingC (e .lens) room ++ field s ++ kOf (e .method) x d) ≡ filled e room (secret cl x kem d ks s)
+    unfolding filled
+    filled-server h = rw (eq-eqb (e .role) server h)
+
+    -- what a client answers and leaves
+    client-done : (e .role ≡ server → ⊥) → (end len : ℕ) (bytes src left : List ℕ) → end ≡ fieldsSize (e .lens) → len ≡ length (kOf (e .method) x d)
+        → bytes ≡ kRecord (kOf (e .method) x d) → src ≡ bytesAt bytes (inside (length bytes) (part 0 len)) → left ≡ laid room end src
+        → (_≡_ {A = Step} (record { number = 0; count = end + len; second = 0; exchange = withStage e SecretDone (e .lens) bytes }) (answered e room (secret cl x kem d ks s)))
+        × (left ≡ roomAfter e room (secret cl x kem d ks s))
+    client-done h end len bytes src left f₀ g b p w =
+        let t = secret-fits in
+        let f = f₀ ∙ fields-fits (e .lens) (t .sums) in
+        let k = key-part (kOf (e .method) x d) len bytes src (t .k-fits) g b p in (
+          answer (e .lens) end len bytes (taken-client h) f g b,
+          w ∙ (λ i. laid room (f i) (k i))
+              ∙ laid-fits room (fieldsEnd (e .lens)) (kOf (e .method) x d) (omega (arith, t .room-least, t .all-fits))
+              ∙ filled-client h
+              ∙ step-accepted e room (secret cl x kem d ks s) z .1,
+        )
+
+    -- what a server answers and leaves
+    server-done : e .role ≡ server → (start size end len : ℕ) (bytes src mid left : List ℕ) → start ≡ headSize (e .lens) → size ≡ fieldSize (e .lens .c)
+        → mid ≡ around room start size ks s → end ≡ fieldsSize (withS (e .lens) (length ks) (length s)) → len ≡ length (kOf (e .method) x d)
+        → bytes ≡ kRecord (kOf (e .method) x d) → src ≡ bytesAt bytes (inside (length bytes) (part 0 len)) → left ≡ laid mid end src
+        → (_≡_ {A = Step} (record { number = 0; count = end + len; second = 0; exchange = withStage e SecretDone (withS (e .lens) (length ks) (length s)) bytes }) (answered e room (secret cl x kem d ks s)))
+        × (left ≡ roomAfter e room (secret cl x kem d ks s))
+    server-done h start size end len bytes src mid left a₀ c₀ m f₀ g b p w =
+        let t = secret-fits in
+        let u = server-fits h in
+        let a = a₀ ∙ head-fits (e .lens) (t .sums) in
+        let c = c₀ ∙ size-fits (e .lens .c) (t .sums .c) in
+        let f = f₀ ∙ fields-fits (withS (e .lens) (length ks) (length s)) (u .sums) in
+        let k = key-part (kOf (e .method) x d) len bytes src (t .k-fits) g b p in
+        let o : mid ≡ around room (headEnd (e .lens)) (fieldLength (e .lens .c)) ks s = m ∙ (λ i. around room (a i) (c i) ks s) in (
+          answer (withS (e .lens) (length ks) (length s)) end len bytes (taken-server h) f g b,
+          w ∙ (λ i. laid (o i) (f i) (k i))
+              ∙ room-server (e .lens) room ks s (kOf (e .method) x d) (omega (arith, t .room-least, u .all-fits))
+              ∙ filled-server h
+              ∙ step-accepted e room (secret cl x kem d ks s) z .1,
+        )
+
+-- ---- on lent bytes
+
+pub secret-fed : (b : List ℕ) (cl : Classical) (x : List ℕ) (kem : Kem) (d ks s : List ℕ) (r m fed : ℕ) → r ≡ getD b 3 0 → m ≡ getD b 4 0
+    → fed ≡ secretCause r m cl x kem d ks s → fed ≡ fedCause (decoded b .role) (decoded b .method) (secret cl x kem d ks s)
+unfolding fedCause
+secret-fed b cl x kem d ks s r m fed h k f = f ∙ (λ i. secretCause (role-read b r h i) (method-read b m k i) cl x kem d ks s)
+
+-- lengths within their bounds fit two bytes
+small-short : (l : Lengths) → Small l → Short l
+small-short l h = record {
+  vc = omega (arith, h .vc);
+  vs = omega (arith, h .vs);
+  ic = omega (arith, h .ic);
+  is = omega (arith, h .is);
+  ks = omega (arith, h .ks);
+  c = omega (arith, h .c);
+  s = omega (arith, h .s);
+}
+
+-- what the bytes of an exchange tell
+module _ (e : Exchange) (b : List ℕ) (h : b ≡ encoded e) (k : length (e .k) ≡ kSize) where
+  sized : length b ≡ exchangeSize
+  sized = ap length h ∙ fits-known (encoded e) (encoded-fits e k) .0
+
+  lengths-there : Short (e .lens) → lengthsOf b ≡ e .lens
+  unfolding decoded
+  lengths-there f =
+      sym (size-taken b noLengths (lengthsIn b) sized) ∙ ap lengthsIn h ∙ ap (λ (y : Exchange). y .lens) (decoded-encoded e f)
+
+module _ (b room : List ℕ) (cl : Classical) (x : List ℕ) (kem : Kem) (d ks s : List ℕ) (o : Opened b room (secret cl x kem d ks s)) where
+  abbrev q : Call
+  q = secret cl x kem d ks s
+
+  -- what an accepted step has left, step by step: K_S and S joined or not, where K goes, K and its record
+  pub record Joined (role end len : ℕ) (ex₁ room₁ bytes src left ex : List ℕ) : Type 0 where
+    pub role-is : role ≡ getD b 3 0
+    pub own : ex₁ ≡ cond (eqb role server) (bySize b (put16 (put16 (set b 1 4) 13 (length ks)) 17 (length s)) b) b
+    pub own-room : room₁ ≡ cond (eqb role server) (around room (headSize (lengthsOf b)) (fieldSize (lengthsOf b .c)) ks s) room
+    pub end-is : end ≡ fieldsSize (lengthsOf ex₁)
+    pub len-is : len ≡ length (kOf (decoded b .method) x d)
+    pub bytes-are : bytes ≡ kRecord (kOf (decoded b .method) x d)
+    pub src-is : src ≡ bytesAt bytes (inside (length bytes) (part 0 len))
+    pub left-is : left ≡ laid room₁ end src
+    pub ex-is : ex ≡ bySize ex₁ (laid (set ex₁ 1 4) 19 bytes) ex₁
+
+  -- then all is as the step has it, and the count is small
+  pub record Done (count : ℕ) (left ex : List ℕ) : Type 0 where
+    pub told : count ∷ [] ≡ tells (decoded b) room q
+    pub room-is : left ≡ roomAfter (decoded b) room q
+    pub ex-is : ex ≡ encoded (taken (decoded b) q)
+
+  pub secret-done : (role end len : ℕ) (ex₁ room₁ bytes src left ex : List ℕ) → Joined role end len ex₁ room₁ bytes src left ex
+      → Done (end + len) left ex × (end + len ≤ roomLeast)
+  unfolding tells
+  secret-done role end len ex₁ room₁ bytes src left ex j = by-role (eqb role server) refl
+    where
+      e : Exchange
+      e = decoded b
+
+      z : number e room q ≡ 0
+      z = o .accepts
+
+      fit : SecretFits e room x d
+      fit = secret-fits e room cl x kem d ks s z
+
+      size : length bytes ≡ kSize
+      size = ap length (j .bytes-are) ∙ length-record (kOf (e .method) x d) (fit .k-fits)
+
+      by-role : (t : Bool) → eqb role server ≡ t → Done (end + len) left ex × (end + len ≤ roomLeast)
+      by-role true w =
+          let r : e .role ≡ server = sym (role-read b role (j .role-is)) ∙ eqb-true role server w in
+          let u = server-fits e room cl x kem d ks s z r in
+          let l = withS (e .lens) (length ks) (length s) in
+          let e₁ = withStage e SecretDone l (e .k) in
+          let a = s-changed b room q o SecretDone (length ks) (length s) ex₁ refl (j .own ∙ rw w) in
+          let g = j .end-is ∙ ap fieldsSize (lengths-there e₁ ex₁ a (o .k-size) (small-short l (u .sums))) in
+          let c = k-changed e₁ SecretDone bytes ex₁ ex refl (o .k-size) size a (sized e₁ ex₁ a (o .k-size)) (j .ex-is) in
+          let f = server-done e room cl x kem d ks s z r _ _ end len bytes src room₁ left (ap headSize (o .lens-are)) (ap (λ (y : Lengths). fieldSize (y .c)) (o .lens-are)) (j .own-room ∙ rw w) g (j .len-is) (j .bytes-are) (j .src-is) (j .left-is) in (
+            record {
+              told = ap counts (f .0);
+              room-is = f .1;
+              ex-is = c ∙ ap (λ (k : List ℕ). encoded (withStage e SecretDone l k)) (j .bytes-are) ∙ ap encoded (taken-server e room cl x kem d ks s z r);
+            },
+            omega (arith, g ∙ fields-fits l (u .sums), j .len-is, u .all-fits),
+          )
+      by-role false w =
+          let r : e .role ≡ server → ⊥ = λ h. eqb-false role server w (role-read b role (j .role-is) ∙ h) in
+          let a : ex₁ ≡ encoded e = j .own ∙ rw w (o .bytes-are) in
+          let g = j .end-is ∙ ap fieldsSize (lengths-there e ex₁ a (o .k-size) (small-short (e .lens) (fit .sums))) in
+          let c = k-changed e SecretDone bytes ex₁ ex (o .no-fail) (o .k-size) size a (sized e ex₁ a (o .k-size)) (j .ex-is) in
+          let n : room₁ ≡ room = j .own-room ∙ rw w in
+          let m = j .left-is ∙ ap (λ (y : List ℕ). laid y end src) n in
+          let f = client-done e room cl x kem d ks s z r end len bytes src left g (j .len-is) (j .bytes-are) (j .src-is) m in (
+            record {
+              told = ap counts (f .0);
+              room-is = f .1;
+              ex-is = c ∙ ap (λ (k : List ℕ). encoded (withStage e SecretDone (e .lens) k)) (j .bytes-are) ∙ ap encoded (taken-client e room cl x kem d ks s z r);
+            },
+            omega (arith, g ∙ fields-fits (e .lens) (fit .sums), j .len-is, fit .all-fits),
+          )

@@ -1,0 +1,73 @@
+-- `lent_steps::start` meets its contract. Assumes nothing.
+use borrow.Author.Needs.{needs}
+use mathlib.Core.Path.{refl, sym, ap, _∙_}
+use native.Mathlib.Omega.{arith}
+use lib.ListN.{length}
+use denote.Ref.{now}
+use Rattle.exchange.specs.Record.{ended}
+use Rattle.exchange.specs.declared.Stage.the-variants.{Started}
+use Rattle.stored.proofs.StoredLaws.{size-taken}
+use Rattle.stored.proofs.ChangeLaws.{begun-is}
+use Rattle.lent.proofs.LentLaws.{ended-bytes, start-taken, start-left}
+use Rattle.lent_steps.proofs.StartLaws.{start-refused, start-fits, start-accepted}
+use Rattle.lent_steps.proofs.start.Statement.{statement}
+use Rattle.lent_steps.proofs.start.Tie as tie
+
+returns : tie.Need-returns
+returns c =
+    let a = c .before .before .before .before .before .before .before .args in
+    start-left (now (a .ex)) (a .role) (a .method) (now (a .vc)) (now (a .vs)) (now (a .ic)) (now (a .is)) (now (a .room)) (c .if1 .taken)
+
+start-cause-requires : tie.Need-start-cause-requires
+start-cause-requires c κs = search needs
+
+begin-requires : tie.Need-begin-requires
+begin-requires c κs = search needs
+
+same-length : tie.Need-same-length
+same-length c = search needs
+
+returns-2 : tie.Need-returns-2
+returns-2 c =
+    let a = c .before .before .before .before .before .before .before .before .before .before .before .before .before .args in
+    let b = now (a .ex) in
+    let h = c .before .before .before .before .before .before .if1 .left in
+    let s = start-refused (a .role) (a .method) (now (a .vc)) (now (a .vs)) (now (a .ic)) (now (a .is)) (now (a .room)) _ (c .before .before .before .before .before .start-cause .ensures) (ended (c .before .before .before .before .before .start-cause .result) 0 0) (c .before .before .before .before .if2 .taken) refl in
+    start-taken b (a .role) (a .method) (now (a .vc)) (now (a .vs)) (now (a .ic)) (now (a .is)) (now (a .room)) h _ _ _ _ (s .0) (c .before .before .begin .ensures ∙ sym (size-taken b b _ h) ∙ ended-bytes (c .before .before .before .before .before .start-cause .result) 0 0) (s .1)
+
+put-head-requires : tie.Need-put-head-requires
+put-head-requires c κs =
+    let a = c .before .before .before .before .before .before .before .before .before .before .args in
+    start-fits (a .role) (a .method) (now (a .vc)) (now (a .vs)) (now (a .ic)) (now (a .is)) (now (a .room)) _ (c .before .before .start-cause .ensures) (omega (arith, c .before .if2 .left))
+
+begin-requires-2 : tie.Need-begin-requires-2
+begin-requires-2 c κs = search needs
+
+same-length-2 : tie.Need-same-length-2
+same-length-2 c = search needs
+
+same-length-3 : tie.Need-same-length-3
+same-length-3 c = search needs
+
+returns-3 : tie.Need-returns-3
+returns-3 c =
+    let a = c .before .before .before .before .before .before .before .before .before .before .before .before .before .before .before .before .before .args in
+    let b = now (a .ex) in
+    let h = c .before .before .before .before .before .before .before .before .before .before .if1 .left in
+    let s = start-accepted (a .role) (a .method) (now (a .vc)) (now (a .vs)) (now (a .ic)) (now (a .is)) (now (a .room)) _ (c .before .before .before .before .before .before .before .before .before .start-cause .ensures) (omega (arith, c .before .before .before .before .before .before .before .before .if2 .left)) _ (c .before .before .before .before .before .before .put-head .ensures) in
+    start-taken b (a .role) (a .method) (now (a .vc)) (now (a .vs)) (now (a .ic)) (now (a .is)) (now (a .room)) h _ _ _ _ (s .0) (c .before .before .begin2 .ensures ∙ sym (size-taken b b _ h) ∙ begun-is Started (a .role) (a .method) (length (now (a .vc))) (length (now (a .vs))) (length (now (a .ic))) (length (now (a .is)))) (s .1)
+
+pub start-spec : {M : Type 1} → statement M
+start-spec =
+    tie.close
+    (tie.spec
+    returns
+    start-cause-requires
+    begin-requires
+    same-length
+    returns-2
+    put-head-requires
+    begin-requires-2
+    same-length-2
+    same-length-3
+    returns-3)

@@ -1,0 +1,117 @@
+// The steps that both roles take on an exchange in lent bytes: the start and the secret. Each is lent the bytes and the room, judges for
+// itself and returns its number. A start takes bytes of an exchange's size, whatever they hold; the secret answers 1 on bytes that no exchange has.
+use exchange::Classical;
+use exchange::Kem;
+use wire::Part;
+ghost use mathlib.Core.Path.{_≡_};
+ghost use mathlib.Core.List.{[], _∷_, _++_};
+ghost use mathlib.Core.Bool.{cond};
+ghost use lib.Dec.{eqb};
+ghost use lib.ListN.{length, set};
+ghost use Rattle.limits.specs.Limits.{server};
+ghost use Rattle.buffers.specs.Bytes.{onto};
+ghost use Rattle.transcript.specs.Fields.{field, fieldSize, around};
+ghost use Rattle.exchange.specs.Steps.{HeadFits, headSize, secret as secretStep};
+ghost use Rattle.stored.specs.Stored.{bySize};
+ghost use Rattle.stored.specs.Changes.{put16};
+ghost use Rattle.lent.specs.Lent.{left, lentCall, lentStart, lengthsOf};
+
+// Starts an exchange: 2, 3, 4, or both V and both I go into the room.
+pub fn start(
+    ex: &mut [u8],
+    role: u8,
+    method: u8,
+    vc: &[u8],
+    vs: &[u8],
+    ic: &[u8],
+    is: &[u8],
+    room: &mut [u8],
+) -> u8
+    ensures { λ n. ⌜ left n [] (now (ex .exit)) (now (room .exit)) [] ≡ lentStart (now (ex .entry)) role method (now (vc .entry)) (now (vs .entry)) (now (ic .entry)) (now (is .entry)) (now (room .entry)) ⌝ }
+{
+    if ex.len() != limits::EXCHANGE_SIZE {
+        return 1;
+    }
+    let n = judge::start_cause(role, method, vc, vs, ic, is, room.len());
+    if n != 0 {
+        lent::begin(ex, stored::FAILED, n, 0, 0, 0, 0, 0, 0);
+        return n;
+    }
+    put_head(room, vc, vs, ic, is);
+    lent::begin(
+        ex,
+        stored::STARTED,
+        0,
+        role,
+        method,
+        vc.len(),
+        vs.len(),
+        ic.len(),
+        is.len(),
+    );
+    0
+}
+
+// Both V and both I at the room's beginning.
+fn put_head(room: &mut [u8], vc: &[u8], vs: &[u8], ic: &[u8], is: &[u8])
+    requires { ⌜ HeadFits (now room) (now vc) (now vs) (now ic) (now is) ⌝ }
+    ensures { λ _. ⌜ now (room .exit) ≡ onto (now (room .entry)) (field (now (vc .entry)) ++ field (now (vs .entry)) ++ field (now (ic .entry)) ++ field (now (is .entry))) ⌝ }
+{
+    transcript::put_field(room, 0, vc);
+    let a = 4 + vc.len();
+    transcript::put_field(room, a, vs);
+    let b = a + 4 + vs.len();
+    transcript::put_field(room, b, ic);
+    let c = b + 4 + ic.len();
+    transcript::put_field(room, c, is);
+}
+
+// A server's K_S and S join; a client's came with REPLY.
+fn join_own(ex: &mut [u8], room: &mut [u8], role: u8, ks: &[u8], s: &[u8])
+    ensures { λ _.
+        let b = now (ex .entry) in
+        let l = lengthsOf b in
+        ⌜ (now (ex .exit) ≡ cond (eqb role server) (bySize b (put16 (put16 (set b 1 4) 13 (length (now (ks .entry)))) 17 (length (now (s .entry)))) b) b) × (now (room .exit) ≡ cond (eqb role server) (around (now (room .entry)) (headSize l) (fieldSize (l .c)) (now (ks .entry)) (now (s .entry))) (now (room .entry))) ⌝ }
+{
+    if role != limits::SERVER {
+        return;
+    }
+    lent::with_reply(ex, room, stored::SECRET_DONE, ks, s);
+}
+
+// The secret: K joins the room and the exchange. Told: the hash input's count.
+pub fn take_secret(
+    ex: &mut [u8],
+    room: &mut [u8],
+    cl: Classical,
+    x: &[u8],
+    kem: Kem,
+    digest: &[u8],
+    ks: &[u8],
+    s: &[u8],
+    count: &mut u64,
+) -> u8
+    ensures { λ n.
+        let q = secretStep cl (now (x .entry)) kem (now (digest .entry)) (now (ks .entry)) (now (s .entry)) in
+        ⌜ left n (now (count .exit) ∷ []) (now (ex .exit)) (now (room .exit)) [] ≡ lentCall (now (ex .entry)) (now (room .entry)) q [] ⌝ }
+{
+    *count = 0;
+    let role = stored::byte_in(ex, stored::ROLE_AT);
+    let method = stored::byte_in(ex, stored::METHOD_AT);
+    let fed = judge_secret::secret_cause(role, method, cl, x, kem, digest, ks, s);
+    let n = due::step_number(4, ex, room.len(), fed);
+    if n != 0 {
+        return lent::refuse(n, ex, room);
+    }
+    let form = methods::k_form(method);
+    let key = secret::k_of(form, x, digest);
+    let bytes = key.bytes;
+    let len = key.len;
+    join_own(ex, room, role, ks, s);
+    let l = stored::lengths_in(ex);
+    let end = lent::fields_end(l);
+    buffers::put_bytes(room, end, wire::part_of(&bytes, Part { start: 0, len }));
+    stored::put_k(ex, stored::SECRET_DONE, &bytes);
+    *count = (end + len) as u64;
+    0
+}

@@ -1,2 +1,0 @@
-pub mod TransitionLaws
-pub mod LaidLaws
