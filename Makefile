@@ -10,7 +10,7 @@ RUST = build/cargo/release
 RUST_SMALL = build/cargo-small/release
 LIB = build/libcastulfrisa.a
 SMALL = build/libcastulfrisa-small.a
-TARGETS = aarch64 riscv64 armv7 cortex-m3
+TARGETS := $(filter-out x86-64,$(shell sh host/clang.sh targets))
 SEED = 20261115
 
 demo: dock

@@ -85,7 +85,8 @@ rattle() { # VERB WORDS...
 
 # what lies below first: rt check takes as many at a time as there are cores
 # shellcheck disable=SC2086
-prove() { rt check ${reached# boundary} && rattle check --logic-built "$own/logic-built" -o build/checked; }
+below() { rt check ${reached# boundary}; }
+prove() { below && rattle check --logic-built "$own/logic-built" -o build/checked; }
 
 # as rt has it: a crate that declares C functions has axioms of its own
 refuse_foreign() {
@@ -98,6 +99,9 @@ if [ ! -d build/checked ] || [ "$(cat build/checked.key 2>/dev/null)" != "$proof
     prove >$log 2>&1 || { tail -n 40 $log; echo "lib: not proved, see $log"; exit 1; }
     refuse_foreign
     echo "$proof" >build/checked.key
+else
+    # what was proved below may have been removed, or be of other sources, since
+    below >$log 2>&1 || { tail -n 40 $log; echo "lib: not proved, see $log"; exit 1; }
 fi
 
 # ---- the archives. rattle takes the verdict only where the inputs are those that were checked.

@@ -25,7 +25,7 @@ static NOINLINE void paint(void)
     for (i = 0; i < DEPTH; i++) below[i] = PAINT;
     top = (uintptr_t)__builtin_frame_address(0);
     if (top < (uintptr_t)below + DEPTH) top = (uintptr_t)below + DEPTH; /* ARM's is below a frame's objects */
-    if ((uintptr_t)below > top - DEPTH) failed = 1;                     /* less than is looked at */
+    if (top - ((uintptr_t)below + DEPTH) > 256) failed = 1;             /* between the two nothing is painted */
 }
 
 /* In its caller's own frame, and with no call: a frame of its own would lie on what is to be seen. */

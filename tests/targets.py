@@ -2,12 +2,13 @@
 """The archives for other machines, each run under qemu and measured (`make targets`; machines.py says how a program for each is made).
 
 Every archive: the header's test, the stack's, the bench on a script with every answer held to plain Rust's, document 01's examples and the
-captured exchanges through the bench, a client and a server at their largest; and it calls nothing but C's memcpy, memmove and memset.
+captured exchanges through the bench, a client and a server at their largest; and it calls nothing but C's memcpy and memset.
 host/example.c, a client and a server on OpenSSL's libcrypto, for the machines that Debian has a libcrypto for: not riscv64 in Debian 12.
 
 usage: targets.py SCRIPT ANSWERS
 """
 import concurrent.futures
+import itertools
 import os
 import pathlib
 import subprocess
@@ -19,15 +20,16 @@ from machines import MACHINES, ROLES, VARIANTS, Carried, table
 
 OTHERS = [m for m in MACHINES.values() if m.emulator]
 HEADER = ['tests/header_test.c', 'tests/header_steps.c', 'tests/header_32.c']
-CALLED = {'memcpy', 'memmove', 'memset'}
+CALLED = {'memcpy', 'memset'}
 LIBCRYPTO = {'aarch64': ('arm64', 'aarch64-linux-gnu'), 'armv7': ('armhf', 'arm-linux-gnueabihf'), 'cortex-m3': ('armhf', 'arm-linux-gnueabihf')}
 FOLDER = ROOT / 'build/targets'
 
 
 def libcrypto(architecture):
-    """The folder of an architecture's libcrypto; none where it cannot be had."""
+    """The folder of an architecture's libcrypto."""
     folder = FOLDER / architecture
-    return folder if subprocess.run(['sh', ROOT / 'tests/libcrypto.sh', architecture, folder]).returncode == 0 else None
+    subprocess.run(['sh', ROOT / 'tests/libcrypto.sh', architecture, folder], check=True)
+    return folder
 
 
 class Wrong(Exception):
@@ -35,7 +37,7 @@ class Wrong(Exception):
 
 
 def said(what, command, **words):
-    done = subprocess.run(command, capture_output=True, **words)
+    done = subprocess.run(command, capture_output=True, timeout=600, **words)
     if done.returncode != 0:
         raise Wrong(f'{what} ended with {done.returncode}: {(done.stdout + done.stderr).decode(errors="replace")[-2000:]}')
     return done.stdout
@@ -56,7 +58,7 @@ def tried(machine, variant, script, answers, folders):
     with open(script) as lines:
         ours = said('the bench', bench, stdin=lines)
     if ours != answers:
-        first = next(i for i, (a, b) in enumerate(zip(ours.split(b'\n'), answers.split(b'\n')), 1) if a != b)
+        first = next(i for i, (a, b) in enumerate(itertools.zip_longest(ours.split(b'\n'), answers.split(b'\n')), 1) if a != b)
         raise Wrong(f'the bench has another answer than plain Rust, number {first}')
     said('the bench test', [sys.executable, ROOT / 'tests/bench_test.py', *bench])
     ran = f'header, stack, {len(answers.splitlines()):,} answers as plain Rust gives them, document 01 and the captures'

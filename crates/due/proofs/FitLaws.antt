@@ -106,15 +106,6 @@ module _ (n : ℕ) (e : Exchange) (room fed : ℕ) where
 
 -- ---- on lent bytes
 
--- role and method, as they are read
-pub role-read : (b : List ℕ) (r : ℕ) → r ≡ getD b 3 0 → r ≡ decoded b .role
-unfolding decoded
-role-read b r h = h
-
-pub method-read : (b : List ℕ) (m : ℕ) → m ≡ getD b 4 0 → m ≡ decoded b .method
-unfolding decoded
-method-read b m h = h
-
 module _ (b : List ℕ) (f : fits b ≡ true) where
   -- lengths and K
   pub lens-read : (l : Lengths) → l ≡ bySize b (lengthsIn b) noLengths → l ≡ decoded b .lens

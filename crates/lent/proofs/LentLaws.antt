@@ -10,6 +10,7 @@ use Rattle.limits.specs.Limits.{kSize, exchangeSize}
 use Rattle.buffers.specs.Bytes.{zeros, onto, laid}
 use Rattle.wire.specs.Parts.{nothing}
 use Rattle.messages.specs.Messages.{fieldPart}
+use Rattle.exchange.specs.Causes.{initCause, replyCause}
 use Rattle.exchange.specs.Numbers.{isFault, Kind, accepted, refused, fault, kind, byKind}
 use Rattle.exchange.specs.Record.{noLengths, ended, nextStep, clientNext, serverNext, due}
 use Rattle.exchange.specs.Steps.{Call, ownC, init, reply, secret, sign, verdict, stepNo, fedCause, stepNumber, number, withC, withS, withStage, taken, filled, countOf, secondOf, answered, roomAfter, outputAfter, stepPart, refusedRoom, started, startedRoom}
@@ -23,20 +24,10 @@ use Rattle.exchange.proofs.StepLaws.{step-known, step-accepted}
 use Rattle.exchange.proofs.DueLaws.{Due}
 use Rattle.stored.specs.Stored.{stageNumber, failNumber, encoded, fits, lengthsIn, LengthBytes, decoded, byFit, bySize}
 use Rattle.stored.specs.Changes.{put16, begun}
-use Rattle.stored.proofs.StoredLaws.{size-taken, size-left, fits-known, fit-taken, fit-left}
+use Rattle.stored.proofs.StoredLaws.{method-read, size-taken, size-left, fits-known, fit-taken, fit-left}
 use Rattle.stored.proofs.RoundTrip.{stored-again}
 use Rattle.stored.proofs.ChangeLaws.{stage-put, c-put, s-put, k-put, begun-is}
 use Rattle.lent.specs.Lent.{Left, left, placeOf, tells, toldSize, writes, outputsAfter, bytesAfter, stepLeft, untouched, lentCall, startLeft, lentStart, lengthsOf, kOf, refusedBytes}
-
--- ---- role and method, as they are read
-
-pub role-read : (b : List ℕ) (r : ℕ) → r ≡ getD b 3 0 → r ≡ decoded b .role
-unfolding decoded
-role-read b r h = h
-
-pub method-read : (b : List ℕ) (m : ℕ) → m ≡ getD b 4 0 → m ≡ decoded b .method
-unfolding decoded
-method-read b m h = h
 
 -- ---- a refusal
 
@@ -126,6 +117,15 @@ module _ (b room : List ℕ) (q : Call) (outs : List (List ℕ)) where
       by-fit : (t : Bool) → fits b ≡ t → cond t (number (decoded b) room q) 1 ≡ 0 → (t ≡ true) × (number (decoded b) room q ≡ 0)
       by-fit true w h = (refl, h)
       by-fit false w h = let v : ⊥ = omega arith in absurd v
+
+-- what INIT and REPLY are judged by
+pub init-fed : (b p : List ℕ) (m fed : ℕ) → m ≡ getD b 4 0 → fed ≡ initCause m p → fed ≡ fedCause (decoded b .role) (decoded b .method) (init p)
+unfolding fedCause
+init-fed b p m fed h f = f ∙ ap (λ (k : ℕ). initCause k p) (method-read b m h)
+
+pub reply-fed : (b p : List ℕ) (m fed : ℕ) → m ≡ getD b 4 0 → fed ≡ replyCause m p → fed ≡ fedCause (decoded b .role) (decoded b .method) (reply p)
+unfolding fedCause
+reply-fed b p m fed h f = f ∙ ap (λ (k : ℕ). replyCause k p) (method-read b m h)
 
 -- ---- how an accepted step changes the bytes
 

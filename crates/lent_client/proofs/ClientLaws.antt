@@ -33,7 +33,7 @@ use Rattle.exchange.proofs.KindLaws.{kind-accepted}
 use Rattle.exchange.proofs.StepLaws.{bounded, small, head-most, next-1, step-known, step-accepted, size-fits, head-fits, fields-fits, Small}
 use Rattle.stored.specs.Stored.{encoded, decoded}
 use Rattle.lent.specs.Lent.{placeOf, counts, tells}
-use Rattle.lent.proofs.LentLaws.{method-read}
+use Rattle.stored.proofs.StoredLaws.{method-read}
 use Rattle.lent.proofs.RoomLaws.{Joins, joins}
 use Rattle.lent.proofs.LaidLaws.{then-laid, begun-onto, begun-store}
 
@@ -103,10 +103,6 @@ module _ (e : Exchange) (room c out : List ℕ) (z : number e room (ownC c (leng
       ∙ step-accepted e room (ownC c (length out)) z .1
 
 -- ---- REPLY
-
-pub reply-fed : (b p : List ℕ) (m fed : ℕ) → m ≡ getD b 4 0 → fed ≡ replyCause m p → fed ≡ fedCause (decoded b .role) (decoded b .method) (reply p)
-unfolding fedCause
-reply-fed b p m fed h f = f ∙ ap (λ (k : ℕ). replyCause k p) (method-read b m h)
 
 module _ (e : Exchange) (room p : List ℕ) (z : number e room (reply p) ≡ 0) where
   reply-cause : replyCause (e .method) p ≡ 0

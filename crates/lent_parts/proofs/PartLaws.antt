@@ -3,26 +3,16 @@ use Prim.Native.Nat.{ℕ}
 use mathlib.Core.Path.{_≡_, refl, sym, ap, _∙_}
 use mathlib.Core.List.{List, [], _∷_}
 use mathlib.Core.Bool.{Bool, true, false, cond}
-use lib.ListN.{length, getD}
 use Rattle.buffers.specs.Bytes.{zeros}
 use Rattle.wire.specs.declared.Part.{Part}
 use Rattle.wire.specs.Parts.{nothing}
 use Rattle.messages.specs.Messages.{fieldPart}
-use Rattle.exchange.specs.Causes.{initCause, replyCause}
-use Rattle.exchange.specs.Steps.{Call, init, reply, fedCause, number, stepPart}
+use Rattle.exchange.specs.Steps.{Call, number, stepPart}
 use Rattle.exchange.proofs.KindLaws.{kind-same, kind-accepted}
 use Rattle.stored.specs.Stored.{fits, decoded, byFit}
 use Rattle.stored.proofs.StoredLaws.{fit-taken}
 use Rattle.lent.specs.Lent.{placeOf}
-use Rattle.lent.proofs.LentLaws.{method-read, accepted-known}
-
-pub init-fed : (b p : List ℕ) (m fed : ℕ) → m ≡ getD b 4 0 → fed ≡ initCause m p → fed ≡ fedCause (decoded b .role) (decoded b .method) (init p)
-unfolding fedCause
-init-fed b p m fed h f = f ∙ ap (λ (k : ℕ). initCause k p) (method-read b m h)
-
-pub reply-fed : (b p : List ℕ) (m fed : ℕ) → m ≡ getD b 4 0 → fed ≡ replyCause m p → fed ≡ fedCause (decoded b .role) (decoded b .method) (reply p)
-unfolding fedCause
-reply-fed b p m fed h f = f ∙ ap (λ (k : ℕ). replyCause k p) (method-read b m h)
+use Rattle.lent.proofs.LentLaws.{accepted-known}
 
 module _ (b room : List ℕ) (q : Call) (p : List ℕ) (i n : ℕ) (e : n ≡ byFit b (number (decoded b) room q) 1) where
   -- refused: no place

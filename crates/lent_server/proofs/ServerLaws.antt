@@ -36,7 +36,6 @@ use Rattle.exchange.proofs.KindLaws.{fault-low, kind-accepted}
 use Rattle.exchange.proofs.StepLaws.{bounded, small, head-most, head-bound, next-2, step-known, step-accepted, size-fits, head-fits, fields-fits, Small}
 use Rattle.stored.specs.Stored.{encoded, fits, decoded, byFit}
 use Rattle.lent.specs.Lent.{placeOf, bothCounts, tells}
-use Rattle.lent.proofs.LentLaws.{method-read}
 use Rattle.lent.proofs.RoomLaws.{Joins, joins}
 use Rattle.lent.proofs.LaidLaws.{then-laid, begun-onto, begun-store}
 
@@ -69,10 +68,6 @@ module _ (out ks s g o1 o2 o3 : List ℕ) (h : length (replyBytes ks s g) ≤ le
   reply-output-length = ap length reply-laid ∙ length-onto out (replyBytes ks s g) h
 
 -- ---- INIT
-
-pub init-fed : (b p : List ℕ) (m fed : ℕ) → m ≡ getD b 4 0 → fed ≡ initCause m p → fed ≡ fedCause (decoded b .role) (decoded b .method) (init p)
-unfolding fedCause
-init-fed b p m fed h f = f ∙ ap (λ (k : ℕ). initCause k p) (method-read b m h)
 
 module _ (e : Exchange) (room p : List ℕ) (z : number e room (init p) ≡ 0) where
   init-cause : initCause (e .method) p ≡ 0

@@ -36,10 +36,10 @@ use Rattle.exchange.specs.declared.Classical.{Classical}
 use Rattle.exchange.specs.declared.Kem.{Kem}
 use Rattle.stored.specs.Stored.{encoded, lengthsIn, decoded, bySize}
 use Rattle.stored.specs.Changes.{put16}
-use Rattle.stored.proofs.StoredLaws.{size-taken, fits-known}
+use Rattle.stored.proofs.StoredLaws.{role-read, method-read, size-taken, fits-known}
 use Rattle.stored.proofs.RoundTrip.{Short, decoded-encoded, encoded-fits}
 use Rattle.lent.specs.Lent.{counts, tells, lengthsOf}
-use Rattle.lent.proofs.LentLaws.{role-read, method-read, Opened, s-changed, k-changed}
+use Rattle.lent.proofs.LentLaws.{Opened, s-changed, k-changed}
 
 -- ---- K and its record
 

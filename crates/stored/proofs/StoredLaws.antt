@@ -78,6 +78,16 @@ fits-known b h = by-size (eqb (length b) exchangeSize) refl h
     by-size true e h = (eqb-true (length b) exchangeSize e, h)
     by-size false e h = absurd (false≢true h)
 
+-- ---- role and method, as they are read
+
+pub role-read : (b : List ℕ) (r : ℕ) → r ≡ getD b 3 0 → r ≡ decoded b .role
+unfolding decoded
+role-read b r h = h
+
+pub method-read : (b : List ℕ) (m : ℕ) → m ≡ getD b 4 0 → m ≡ decoded b .method
+unfolding decoded
+method-read b m h = h
+
 -- ---- what goes by the bytes
 
 pub fit-taken : {A : Type 0} (b : List ℕ) (new old : A) → fits b ≡ true → new ≡ byFit b new old

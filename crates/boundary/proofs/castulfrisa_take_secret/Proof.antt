@@ -7,7 +7,7 @@ use denote.Ref.{now}
 use Rattle.exchange.specs.Steps.{secret}
 use Rattle.arguments.specs.Arguments.{kemOf}
 use Rattle.lent.specs.Lent.{lentCall}
-use Rattle.lent.proofs.LentLaws.{method-read}
+use Rattle.stored.proofs.StoredLaws.{method-read}
 use Rattle.boundary.proofs.castulfrisa_take_secret.Statement.{statement}
 use Rattle.boundary.proofs.castulfrisa_take_secret.Tie as tie
 

@@ -11,8 +11,8 @@ use Rattle.limits.specs.Limits.{exchangeSize}
 use Rattle.methods.specs.Rows.{rowOf}
 use Rattle.exchange.specs.Record.{nextStep, lengthsFit, kFits}
 use Rattle.stored.specs.Stored.{decoded}
-use Rattle.stored.proofs.StoredLaws.{fits-known}
-use Rattle.due.proofs.FitLaws.{due-other, due-low, due-high, due-lengths, due-k, role-read, method-read, lens-read, k-read, k-size, due-on, unfit-due}
+use Rattle.stored.proofs.StoredLaws.{role-read, method-read, fits-known}
+use Rattle.due.proofs.FitLaws.{due-other, due-low, due-high, due-lengths, due-k, lens-read, k-read, k-size, due-on, unfit-due}
 use Rattle.due.proofs.is_due.Statement.{statement}
 use Rattle.due.proofs.is_due.Tie as tie
 

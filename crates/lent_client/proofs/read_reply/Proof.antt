@@ -8,8 +8,8 @@ use Rattle.judge_peer.proofs.PeerLaws.{field-read}
 use Rattle.exchange.specs.Steps.{reply}
 use Rattle.exchange.specs.declared.Stage.the-variants.{ReplyRead}
 use Rattle.stored.specs.Stored.{decoded}
-use Rattle.lent.proofs.LentLaws.{number-lent, call-refused, call-accepted, opened, s-changed}
-use Rattle.lent_client.proofs.ClientLaws.{reply-fed, reply-room, reply-taken, reply-tells}
+use Rattle.lent.proofs.LentLaws.{number-lent, reply-fed, call-refused, call-accepted, opened, s-changed}
+use Rattle.lent_client.proofs.ClientLaws.{reply-room, reply-taken, reply-tells}
 use Rattle.lent_client.proofs.read_reply.Statement.{statement}
 use Rattle.lent_client.proofs.read_reply.Tie as tie
 

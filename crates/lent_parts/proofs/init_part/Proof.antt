@@ -4,8 +4,8 @@ use mathlib.Core.Path.{sym, _∙_}
 use mathlib.Core.List.{[]}
 use denote.Ref.{now}
 use Rattle.exchange.specs.Steps.{init}
-use Rattle.lent.proofs.LentLaws.{number-lent}
-use Rattle.lent_parts.proofs.PartLaws.{init-fed, no-place, place-told}
+use Rattle.lent.proofs.LentLaws.{number-lent, init-fed}
+use Rattle.lent_parts.proofs.PartLaws.{no-place, place-told}
 use Rattle.lent_parts.proofs.init_part.Statement.{statement}
 use Rattle.lent_parts.proofs.init_part.Tie as tie
 

@@ -4,8 +4,8 @@ use mathlib.Core.Path.{sym, _∙_}
 use mathlib.Core.List.{[]}
 use denote.Ref.{now}
 use Rattle.exchange.specs.Steps.{reply}
-use Rattle.lent.proofs.LentLaws.{number-lent}
-use Rattle.lent_parts.proofs.PartLaws.{reply-fed, no-place, place-told}
+use Rattle.lent.proofs.LentLaws.{number-lent, reply-fed}
+use Rattle.lent_parts.proofs.PartLaws.{no-place, place-told}
 use Rattle.lent_parts.proofs.reply_part.Statement.{statement}
 use Rattle.lent_parts.proofs.reply_part.Tie as tie
 

@@ -6,8 +6,7 @@ use denote.Ref.{now}
 use Rattle.limits.proofs.BoolLaws.{holds, fails}
 use Rattle.buffers.specs.Bytes.{zeros}
 use Rattle.stored.specs.Stored.{stageNumber, failNumber, decoded}
-use Rattle.stored.proofs.StoredLaws.{fit-taken, fit-left}
-use Rattle.lent.proofs.LentLaws.{role-read, method-read}
+use Rattle.stored.proofs.StoredLaws.{role-read, method-read, fit-taken, fit-left}
 use Rattle.lent_parts.proofs.state.Statement.{statement}
 use Rattle.lent_parts.proofs.state.Tie as tie
 

@@ -8,8 +8,8 @@ use Rattle.judge_peer.proofs.PeerLaws.{field-read}
 use Rattle.exchange.specs.Steps.{init}
 use Rattle.exchange.specs.declared.Stage.the-variants.{InitRead}
 use Rattle.stored.specs.Stored.{decoded}
-use Rattle.lent.proofs.LentLaws.{number-lent, call-refused, call-accepted, opened, c-changed}
-use Rattle.lent_server.proofs.ServerLaws.{init-fed, init-room, init-taken, init-tells}
+use Rattle.lent.proofs.LentLaws.{number-lent, init-fed, call-refused, call-accepted, opened, c-changed}
+use Rattle.lent_server.proofs.ServerLaws.{init-room, init-taken, init-tells}
 use Rattle.lent_server.proofs.read_init.Statement.{statement}
 use Rattle.lent_server.proofs.read_init.Tie as tie
 
