@@ -1,28 +1,28 @@
 -- What a step by value answers, from the step on bytes. Assumes nothing.
-use Prim.Native.Nat.{ℕ, _≤_, _<_}
-use mathlib.Core.Path.{_≡_, refl, sym, ap, _∙_, subst}
-use mathlib.Core.List.{List, [], _∷_}
+use Prim.Native.Nat.{ℕ, _<_}
+use mathlib.Core.Path.{_≡_, refl, sym, ap, _∙_}
+use mathlib.Core.List.{List, []}
 use mathlib.Core.Bool.{Bool, true, false, cond, _&&_, false≢true}
 use native.Mathlib.Omega.{arith}
-use lib.ListN.{length, getD}
+use lib.ListN.{length}
 use lib.Dec.{leb, eqb}
-use borrow.Author.Tests.{leb-true, le-leb, lt-leb}
+use borrow.Author.Tests.{leb-true, le-leb}
 use Rattle.limits.specs.Limits.{kSize, exchangeSize}
-use Rattle.limits.proofs.BoolLaws.{and-true, and-false, both}
-use Rattle.buffers.specs.Bytes.{zeros, onto}
+use Rattle.limits.proofs.BoolLaws.{and-true, both}
+use Rattle.buffers.specs.Bytes.{zeros}
 use Rattle.wire.proofs.CauseLaws.{unless-fails}
 use Rattle.exchange.specs.Causes.{startCause}
 use Rattle.exchange.specs.Record.{due}
 use Rattle.exchange.specs.Numbers.{Kind, accepted, refused, fault, kind, byKind}
-use Rattle.exchange.specs.Steps.{Call, number, stepNumber, secondOf, countOf, exchangeAfter, roomAfter, answered, outputAfter, refusedStep, refusedRoom, started, startedRoom}
+use Rattle.exchange.specs.Steps.{Call, number, stepNumber, secondOf, countOf, exchangeAfter, roomAfter, answered, started, startedRoom}
 use Rattle.exchange.specs.declared.Lengths.{Lengths}
 use Rattle.exchange.specs.declared.Exchange.{Exchange}
 use Rattle.exchange.specs.declared.Step.{Step}
-use Rattle.exchange.proofs.StepLaws.{step-refused, output-refused}
-use Rattle.stored.specs.Stored.{encoded, decoded, fits, blank, byFit, bySize}
+use Rattle.exchange.proofs.StepLaws.{step-refused}
+use Rattle.stored.specs.Stored.{encoded, decoded, blank, byFit, bySize}
 use Rattle.stored.proofs.StoredLaws.{size-taken, fits-known}
 use Rattle.stored.proofs.RoundTrip.{Short, decoded-encoded, encoded-fits}
-use Rattle.lent.specs.Lent.{Left, left, tells, writes, outputsAfter, untouched, lentCall, startLeft, lentStart}
+use Rattle.lent.specs.Lent.{Left, left, writes, outputsAfter, untouched, lentCall, startLeft, lentStart}
 use Rattle.lent.proofs.Kept.{Storable, step-storable, start-storable, lent-is-step, long-not-due, long-refused}
 use Rattle.lent.proofs.AsStep.{AsStep, as-step}
 use Rattle.by_value.specs.ByValue.{fitTwo, fitsTwo, back}

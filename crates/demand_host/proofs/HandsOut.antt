@@ -21,7 +21,7 @@ use Rattle.demand.proofs.HandsOut.{followed-there}
 use Rattle.demand_host.specs.Told.{Told}
 use Rattle.demand_host.specs.HandedOut.{SecretHandsOut, SignHandsOut, VerdictHandsOut, HandedOut}
 use Rattle.lent.proofs.Kept.{Storable}
-use Rattle.lent.proofs.AsStep.{AsStep, as-step}
+use Rattle.lent.proofs.AsStep.{as-step}
 use Rattle.demand_host.proofs.Links.{found}
 use Rattle.demand_host.proofs.Holds.{runs, as-defined}
 

@@ -19,7 +19,7 @@ use Rattle.stored.proofs.RoundTrip.{encoded-fits}
 use Rattle.demand.proofs.Holds.{AsDefined, held-there}
 use Rattle.demand_host.specs.History.{History, no-call, own-c, read-init, read-reply, take-secret, give-sign, give-verdict}
 use Rattle.demand_host.specs.Told.{Told, start-then}
-use Rattle.demand_host.specs.Demand3.{HeldAtHost, Demand3}
+use Rattle.demand_host.specs.Demand3.{Demand3}
 use Rattle.lent.proofs.Kept.{Storable, step-storable, start-storable}
 use Rattle.lent.proofs.AsStep.{as-step}
 use Rattle.demand_host.proofs.Links.{as-start, found, method-kept, start-method, method-there}

@@ -10,7 +10,7 @@ use Rattle.limits.specs.Limits.{exchangeSize}
 use Rattle.exchange.specs.Causes.{startCause}
 use Rattle.exchange.specs.Record.{ended}
 use Rattle.exchange.specs.Numbers.{Kind, accepted, refused, fault, kind, byKind}
-use Rattle.exchange.specs.Steps.{Call, ownC, init, reply, secret, sign, verdict, number, taken, exchangeAfter, roomAfter, started, startedRoom}
+use Rattle.exchange.specs.Steps.{Call, ownC, init, reply, secret, sign, verdict, number, taken, exchangeAfter, started, startedRoom}
 use Rattle.exchange.specs.declared.Exchange.{Exchange}
 use Rattle.stored.specs.Stored.{encoded, decoded, bySize}
 use Rattle.stored.proofs.StoredLaws.{size-taken}

@@ -170,7 +170,8 @@ fn mpint_fits(method: u8, n: usize) -> bool
     true
 }
 
-// Whether a step is due on an exchange in lent bytes. Where it is, its lengths have been read, and so are bytes.
+// Whether a step is due on an exchange in lent bytes. Where it is, its lengths were read, so that their bytes are
+// known to be below 256.
 fn is_due(n: u8, b: &[u8]) -> bool
     ensures { λ r. ⌜ (r ≡ (fits (now (b .entry)) && due n (decoded (now (b .entry))))) × (r ≡ true → LengthBytes (now (b .entry))) ⌝ }
 {

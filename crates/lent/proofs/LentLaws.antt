@@ -1,8 +1,8 @@
 -- Calls on lent bytes: what is refused, what is accepted, and how an accepted step changes the bytes. Assumes nothing.
-use Prim.Native.Nat.{ℕ, _≤_}
+use Prim.Native.Nat.{ℕ}
 use mathlib.Core.Path.{_≡_, refl, sym, ap, _∙_}
 use mathlib.Core.List.{List, [], _∷_, _++_}
-use mathlib.Core.Bool.{Bool, true, false, cond, false≢true}
+use mathlib.Core.Bool.{Bool, true, false, cond}
 use native.Mathlib.Omega.{arith}
 use lib.ListN.{length, getD, set, drop, length-drop}
 use lib.Dec.{eqb}
@@ -11,23 +11,21 @@ use Rattle.buffers.specs.Bytes.{zeros, onto, laid}
 use Rattle.wire.specs.Parts.{nothing}
 use Rattle.messages.specs.Messages.{fieldPart}
 use Rattle.exchange.specs.Causes.{initCause, replyCause}
-use Rattle.exchange.specs.Numbers.{isFault, Kind, accepted, refused, fault, kind, byKind}
-use Rattle.exchange.specs.Record.{noLengths, ended, nextStep, clientNext, serverNext, due}
+use Rattle.exchange.specs.Numbers.{isFault, Kind, accepted, refused, kind, byKind}
+use Rattle.exchange.specs.Record.{noLengths, ended, nextStep}
 use Rattle.exchange.specs.Steps.{Call, ownC, init, reply, secret, sign, verdict, stepNo, fedCause, stepNumber, number, withC, withS, withStage, taken, filled, countOf, secondOf, answered, roomAfter, outputAfter, stepPart, refusedRoom, started, startedRoom}
 use Rattle.exchange.specs.declared.Stage.{Stage}
 use Rattle.exchange.specs.declared.Stage.the-variants.{Started, CSent, InitRead, ReplyRead, SecretDone, Complete, Failed}
-use Rattle.exchange.specs.declared.Lengths.{Lengths}
 use Rattle.exchange.specs.declared.Exchange.{Exchange}
 use Rattle.exchange.specs.declared.Step.{Step}
 use Rattle.exchange.proofs.KindLaws.{kind-same, kind-fault, kind-other, kind-accepted}
-use Rattle.exchange.proofs.StepLaws.{step-known, step-accepted}
-use Rattle.exchange.proofs.DueLaws.{Due}
+use Rattle.exchange.proofs.StepLaws.{step-known}
 use Rattle.stored.specs.Stored.{stageNumber, failNumber, encoded, fits, lengthsIn, LengthBytes, decoded, byFit, bySize}
 use Rattle.stored.specs.Changes.{put16, begun}
-use Rattle.stored.proofs.StoredLaws.{method-read, size-taken, size-left, fits-known, fit-taken, fit-left}
+use Rattle.stored.proofs.StoredLaws.{method-read, size-taken, size-left, fits-known, fit-taken}
 use Rattle.stored.proofs.RoundTrip.{stored-again}
 use Rattle.stored.proofs.ChangeLaws.{stage-put, c-put, s-put, k-put, begun-is}
-use Rattle.lent.specs.Lent.{Left, left, placeOf, tells, toldSize, writes, outputsAfter, bytesAfter, stepLeft, untouched, lentCall, startLeft, lentStart, lengthsOf, kOf, refusedBytes}
+use Rattle.lent.specs.Lent.{left, placeOf, tells, toldSize, writes, outputsAfter, bytesAfter, stepLeft, untouched, lentCall, startLeft, lentStart, lengthsOf, kOf, refusedBytes}
 
 -- ---- a refusal
 

@@ -1,13 +1,11 @@
 -- Where C joins the room, K as it is written, and sums of sizes. Assumes nothing.
 use Prim.Native.Nat.{ℕ, _+_, _≤_, _-_}
-use mathlib.Core.Path.{_≡_, refl, sym, ap, _∙_, subst}
+use mathlib.Core.Path.{_≡_, ap, _∙_, subst}
 use mathlib.Core.List.{List}
-use mathlib.Core.Bool.{Bool, true, false, cond}
 use native.Mathlib.Omega.{arith}
 use lib.ListN.{length}
-use lib.Dec.{eqb}
 use Rattle.limits.specs.Limits.{kSize, roomLeast}
-use Rattle.buffers.specs.Bytes.{zeros, onto, laid}
+use Rattle.buffers.specs.Bytes.{onto, laid}
 use Rattle.buffers.proofs.ByteLaws.{over-zero, laid-fits}
 use Rattle.wire.specs.Strings.{numberAt}
 use Rattle.wire.proofs.StringLaws.{number-at}
@@ -15,18 +13,15 @@ use Rattle.methods.specs.Rows.{rowOf}
 use Rattle.methods.proofs.FormLaws.{length-most}
 use Rattle.transcript.specs.Fields.{field, fieldLength, sizeSum}
 use Rattle.transcript.proofs.RoomLaws.{length-field, fieldLength-most}
-use Rattle.exchange.specs.Record.{noLengths, ended, kLength}
-use Rattle.exchange.specs.Steps.{Call, number, refusedStep, refusedRoom, fieldsEnd, answered, roomAfter, outputAfter}
-use Rattle.exchange.specs.declared.Stage.the-variants.{Started, Failed}
+use Rattle.exchange.specs.Record.{kLength}
+use Rattle.exchange.specs.Steps.{fieldsEnd}
+use Rattle.exchange.specs.declared.Stage.the-variants.{Started}
 use Rattle.exchange.specs.declared.Exchange.{Exchange}
-use Rattle.exchange.specs.declared.Step.{Step}
 use Rattle.exchange.proofs.CauseFacts.{FormedC, method-row}
-use Rattle.exchange.proofs.KindLaws.{kind-fault}
 use Rattle.exchange.specs.declared.Stage.{Stage}
 use Rattle.exchange.specs.declared.Lengths.{Lengths}
 use Rattle.exchange.proofs.DueLaws.{Fitting, Due}
-use Rattle.exchange.proofs.StepLaws.{bounded, small, head-most, started-lengths, step-refused, output-refused, Small}
-use Rattle.exchange.specs.Numbers.{isFault, Kind, accepted, refused, kind, byKind}
+use Rattle.exchange.proofs.StepLaws.{bounded, small, head-most, started-lengths, Small}
 
 -- a missing field takes nothing
 none : (n : ℕ) → n ≡ 0 → fieldLength n ≡ 0

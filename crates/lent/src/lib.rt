@@ -1,5 +1,5 @@
 // What a step does to an exchange in lent bytes and to the room: a refusal and a peer's fault, an exchange begun, C that joins, K_S and S
-// around it, K handed out.
+// around it, K handed out. Bytes of another size stay, and count as having no lengths and no K; no step gets here with them.
 use exchange::Lengths;
 ghost use mathlib.Core.Path.{_≡_};
 ghost use Prim.Native.Nat.{_+_};

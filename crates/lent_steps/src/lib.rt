@@ -1,5 +1,6 @@
 // The steps that both roles take on an exchange in lent bytes: the start and the secret. Each is lent the bytes and the room, judges for
-// itself and returns its number. A start takes bytes of an exchange's size, whatever they hold; the secret answers 1 on bytes that no exchange has.
+// itself and returns its number. A start takes bytes of an exchange's size, whatever they hold, and answers 1 to others, which stay; the secret answers 1 on
+// bytes that no exchange has.
 use exchange::Classical;
 use exchange::Kem;
 use wire::Part;

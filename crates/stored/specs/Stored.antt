@@ -86,7 +86,8 @@ lengthsIn b = record {
   s = number16 b 17;
 }
 
--- both bytes of a length are bytes, as whoever read them knows
+-- a contract sees a lent byte as any number, and that it is below 256 is known only where code reads it: of both bytes of a length, and so of all seven.
+-- This carries it from the reading to `stored-again`, by which bytes that fit are the encoding of what they decode to
 abbrev pub Halves : List ℕ → ℕ → Type 0
 Halves b at = (getD b at 0 < 256) × (getD b (at + 1) 0 < 256)
 

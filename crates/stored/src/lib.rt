@@ -127,7 +127,7 @@ pub fn byte_in(b: &[u8], at: usize) -> u8
     if at < b.len() { b[at] } else { 0 }
 }
 
-// The stage that bytes tell.
+// The stage that bytes tell; a byte that is not there counts as 0.
 pub fn stage_in(b: &[u8]) -> Stage
     ensures { λ r. ⌜ r ≡ decoded (now (b .entry)) .stage ⌝ }
 {
@@ -185,7 +185,7 @@ pub fn k_in(b: &[u8]) -> &[u8]
     &b[K_AT..]
 }
 
-// The exchange in as many bytes as one has, a blank one in others.
+// The exchange in as many bytes as one has, whatever their marks; a blank one in others.
 pub fn load(b: &[u8]) -> Exchange
     ensures { λ r. ⌜ r ≡ bySize (now (b .entry)) (decoded (now (b .entry))) blank ⌝ }
 {

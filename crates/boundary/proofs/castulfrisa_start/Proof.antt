@@ -1,6 +1,6 @@
 -- `boundary::castulfrisa_start` meets its contract. Assumes nothing.
 use borrow.Author.Needs.{needs}
-use mathlib.Core.Path.{_≡_, _∙_}
+use mathlib.Core.Path.{_∙_}
 use mathlib.Core.List.{[]}
 use denote.Ref.{now}
 use Rattle.arguments.proofs.ArgumentLaws.{start-wide}

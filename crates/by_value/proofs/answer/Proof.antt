@@ -1,8 +1,5 @@
 -- `by_value::answer` meets its contract. Assumes nothing.
 use borrow.Author.Needs.{needs}
-use mathlib.Core.Path.{ap}
-use Rattle.exchange.specs.declared.Exchange.{Exchange}
-use Rattle.exchange.specs.declared.Step.{Step}
 use Rattle.by_value.specs.ByValue.{back}
 use Rattle.by_value.proofs.answer.Statement.{statement}
 use Rattle.by_value.proofs.answer.Tie as tie

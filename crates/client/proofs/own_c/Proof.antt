@@ -12,7 +12,7 @@ use Rattle.exchange.proofs.StepLaws.{output-refused}
 use Rattle.messages.specs.Messages.{initBytes}
 use Rattle.lent.specs.Lent.{tells}
 use Rattle.lent.proofs.AsStep.{AsStep}
-use Rattle.by_value.proofs.ValueLaws.{storable, laid-bytes, value-long, value-step, count-none, second-none}
+use Rattle.by_value.proofs.ValueLaws.{storable, laid-bytes, value-long, value-step, second-none}
 use Rattle.client.proofs.own_c.Statement.{statement}
 use Rattle.client.proofs.own_c.Tie as tie
 

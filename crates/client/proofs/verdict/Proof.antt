@@ -11,7 +11,7 @@ use Rattle.exchange.specs.Steps.{verdict, countOf, secondOf}
 use Rattle.exchange.proofs.StepLaws.{output-refused}
 use Rattle.lent.specs.Lent.{tells}
 use Rattle.lent.proofs.AsStep.{AsStep}
-use Rattle.by_value.proofs.ValueLaws.{storable, laid-bytes, value-long, value-step, count-none, second-none}
+use Rattle.by_value.proofs.ValueLaws.{storable, laid-bytes, value-long, value-step, second-none}
 use Rattle.client.proofs.verdict.Statement.{statement}
 use Rattle.client.proofs.verdict.Tie as tie
 

@@ -1,13 +1,10 @@
 -- `due::is_due` meets its contract. Assumes nothing.
 use borrow.Author.Needs.{needs}
-use Prim.Native.Nat.{ℕ}
-use mathlib.Core.Path.{_≡_, sym, ap, _∙_}
+use mathlib.Core.Path.{_≡_, sym, _∙_}
 use mathlib.Core.Bool.{true, false, false≢true}
 use native.Mathlib.Omega.{arith}
-use lib.ListN.{length}
 use denote.Ref.{now}
 use Rattle.limits.proofs.BoolLaws.{holds, fails}
-use Rattle.limits.specs.Limits.{exchangeSize}
 use Rattle.methods.specs.Rows.{rowOf}
 use Rattle.exchange.specs.Record.{nextStep, lengthsFit, kFits}
 use Rattle.stored.specs.Stored.{decoded}

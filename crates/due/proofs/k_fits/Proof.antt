@@ -1,7 +1,7 @@
 -- `due::k_fits` meets its contract. Assumes nothing.
 use borrow.Author.Needs.{needs}
 use Prim.Native.Nat.{ℕ}
-use mathlib.Core.Path.{_≡_, sym, ap, _∙_}
+use mathlib.Core.Path.{sym, ap, _∙_}
 use lib.Dec.{eqb}
 use denote.Ref.{now}
 use Rattle.methods.specs.Rows.{rowOf}

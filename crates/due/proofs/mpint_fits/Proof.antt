@@ -5,7 +5,6 @@ use mathlib.Core.Path.{sym, _∙_}
 use mathlib.Core.Logic.{⊎-elim}
 use native.Mathlib.Omega.{arith}
 use Rattle.methods.specs.Rows.{rowOf}
-use Rattle.limits.proofs.BoolLaws.{holds, fails}
 use Rattle.due.proofs.FitLaws.{mpint-long, mpint-checked, mpint-free}
 use Rattle.due.proofs.mpint_fits.Statement.{statement}
 use Rattle.due.proofs.mpint_fits.Tie as tie

@@ -1,6 +1,5 @@
 -- `lent::with_reply` meets its contract. Assumes nothing.
 use borrow.Author.Needs.{needs}
-use Prim.Native.Nat.{ℕ}
 use mathlib.Core.Path.{ap, _∙_}
 use denote.Ref.{now}
 use Rattle.transcript.specs.Fields.{fieldSize, around}

@@ -1,12 +1,12 @@
 -- `lent_client::verdict` meets its contract. Assumes nothing.
 use borrow.Author.Needs.{needs}
-use mathlib.Core.Path.{refl, sym, ap, _∙_}
+use mathlib.Core.Path.{ap, _∙_}
 use mathlib.Core.List.{[], _∷_}
 use lib.ListN.{length}
 use denote.Ref.{now}
 use Rattle.exchange.specs.Steps.{verdict}
 use Rattle.exchange.proofs.StepLaws.{output-accepted}
-use Prim.Native.Nat.{ℕ, _+_}
+use Prim.Native.Nat.{ℕ}
 use mathlib.Core.List.{List}
 use Rattle.wire.specs.Strings.{numberAt}
 use Rattle.buffers.specs.Bytes.{laid}

@@ -1,8 +1,7 @@
 -- `lent_server::read_init` meets its contract. Assumes nothing.
 use borrow.Author.Needs.{needs}
-use mathlib.Core.Path.{refl, sym, ap, _∙_}
-use mathlib.Core.List.{[], _∷_}
-use lib.ListN.{length}
+use mathlib.Core.Path.{refl, _∙_}
+use mathlib.Core.List.{[]}
 use denote.Ref.{now}
 use Rattle.judge_peer.proofs.PeerLaws.{field-read}
 use Rattle.exchange.specs.Steps.{init}

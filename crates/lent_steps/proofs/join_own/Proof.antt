@@ -1,6 +1,6 @@
 -- `lent_steps::join_own` meets its contract. Assumes nothing.
 use borrow.Author.Needs.{needs}
-use mathlib.Core.Path.{refl, _∙_}
+use mathlib.Core.Path.{_∙_}
 use borrow.Author.Tests.{eq-eqb, ne-eqb}
 use Rattle.limits.specs.Limits.{server}
 use Rattle.lent_steps.proofs.join_own.Statement.{statement}

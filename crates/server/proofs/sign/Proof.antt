@@ -1,7 +1,7 @@
 -- `server::sign` meets its contract. Assumes nothing.
 use borrow.Author.Needs.{needs}
 use Prim.Native.Nat.{ℕ}
-use mathlib.Core.Path.{_≡_, refl, ap, _∙_}
+use mathlib.Core.Path.{_≡_, ap, _∙_}
 use mathlib.Core.List.{List, [], _∷_}
 use lib.ListN.{length, getD}
 use denote.Ref.{now}
@@ -11,7 +11,7 @@ use Rattle.exchange.specs.Steps.{sign, replyOf, countOf, secondOf}
 use Rattle.exchange.proofs.StepLaws.{output-refused}
 use Rattle.lent.specs.Lent.{tells}
 use Rattle.lent.proofs.AsStep.{AsStep}
-use Rattle.by_value.proofs.ValueLaws.{storable, laid-bytes, value-long, value-step, count-none, second-none}
+use Rattle.by_value.proofs.ValueLaws.{storable, laid-bytes, value-long, value-step}
 use Rattle.server.proofs.sign.Statement.{statement}
 use Rattle.server.proofs.sign.Tie as tie
 

@@ -2,7 +2,7 @@
 use borrow.Author.Needs.{needs}
 use Prim.Native.Nat.{ℕ}
 use mathlib.Core.Path.{_≡_, refl, ap, _∙_}
-use mathlib.Core.List.{List, [], _∷_}
+use mathlib.Core.List.{List, []}
 use lib.ListN.{length, getD}
 use denote.Ref.{now}
 use Rattle.limits.specs.Limits.{kSize}
@@ -10,7 +10,7 @@ use Rattle.limits.proofs.BoolLaws.{holds, fails}
 use Rattle.exchange.specs.Steps.{secret, countOf, secondOf}
 use Rattle.lent.specs.Lent.{tells}
 use Rattle.lent.proofs.AsStep.{AsStep}
-use Rattle.by_value.proofs.ValueLaws.{storable, laid-bytes, value-long, value-step, count-none, second-none}
+use Rattle.by_value.proofs.ValueLaws.{storable, laid-bytes, value-long, value-step, second-none}
 use Rattle.steps.proofs.take_secret.Statement.{statement}
 use Rattle.steps.proofs.take_secret.Tie as tie
 

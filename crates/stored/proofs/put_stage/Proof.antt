@@ -1,6 +1,5 @@
 -- `stored::put_stage` meets its contract. Assumes nothing.
 use borrow.Author.Needs.{needs}
-use lib.ListN.{set}
 use denote.Ref.{now}
 use Rattle.stored.proofs.StoredLaws.{size-taken, size-left}
 use Rattle.stored.proofs.put_stage.Statement.{statement}

@@ -1,6 +1,6 @@
 -- `stored::stage_in` meets its contract. Assumes nothing.
 use borrow.Author.Needs.{needs}
-use mathlib.Core.Path.{_≡_, _∙_}
+use mathlib.Core.Path.{_∙_}
 use Rattle.stored.specs.Stored.{stageOf, decoded}
 use Rattle.stored.proofs.stage_in.Statement.{statement}
 use Rattle.stored.proofs.stage_in.Tie as tie
