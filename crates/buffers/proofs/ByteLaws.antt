@@ -1,15 +1,15 @@
 -- Laws of `specs/Bytes.antt`. Assumes nothing.
 use Prim.Native.Nat.{ℕ, zero, suc, _+_, _-_, _≤_, _<_}
 use mathlib.Core.Path.{_≡_, refl, sym, ap, _∙_}
-use mathlib.Core.List.{List, [], _∷_, _++_, append-assoc}
-use mathlib.Core.Bool.{Bool, true, false, _&&_, false≢true}
+use mathlib.Core.List.{List, [], _∷_, _++_, append-assoc, append-nil}
+use mathlib.Core.Bool.{Bool, true, false, cond, _&&_, false≢true}
 use native.Mathlib.Omega.{arith}
-use native.Mathlib.Nat.{add-assoc, zero-add}
+use native.Mathlib.Nat.{add-assoc, add-zero, zero-add}
 use native.Mathlib.Numerals.{add-one}
-use lib.ListN.{length, getD, take, drop, set, length-append, length-drop}
+use lib.ListN.{length, getD, take, drop, set, length-append, length-drop, take-append-drop}
 use lib.Seq.{sets-eq, paste, paste-suc, take-all, take-length, length-take-le, take-at, drop-append-add, drop-drop, drop-cons}
-use lib.Dec.{eqb}
-use borrow.Author.Tests.{le-leb, lt-leb, eqb-true, eq-eqb}
+use lib.Dec.{eqb, leb}
+use borrow.Author.Tests.{le-leb, lt-leb, leb-true, leb-false, eqb-true, eq-eqb}
 use Rattle.buffers.specs.Bytes.{Bytes, same, onto, over, laid, stored, eight}
 
 -- the part `&s[k..]`, as the slice rule states it
@@ -82,7 +82,20 @@ over-over l at a b h =
     ∙ ap (λ (x : List ℕ). p ++ b ++ x) r
     ∙ ap (λ (x : List ℕ). x ++ drop (at + length (a ++ b)) l) (append-assoc (take at l) a b)
 
--- four stores
+-- nothing laid
+pub over-nil : (l : List ℕ) (at : ℕ) → over l at [] ≡ l
+unfolding over
+over-nil l at = simp (append-nil, add-zero, take-append-drop)
+
+-- one store, two and four
+pub over-one : (l : List ℕ) (at a : ℕ) → at + 1 ≤ length l → set l at a ≡ over l at (a ∷ [])
+unfolding over
+over-one l at a h = sets-eq (a ∷ []) l at h
+
+pub over-two : (l : List ℕ) (at a b : ℕ) → at + 2 ≤ length l → set (set l at a) (at + 1) b ≡ over l at (a ∷ b ∷ [])
+unfolding over
+over-two l at a b h = let e : at + 1 ≡ suc at = omega arith in rw e (sets-eq (a ∷ b ∷ []) l at h)
+
 pub over-four : (l : List ℕ) (at a b c d : ℕ) → at + 4 ≤ length l
     → set (set (set (set l at a) (at + 1) b) (at + 2) c) (at + 3) d ≡ over l at (a ∷ b ∷ c ∷ d ∷ [])
 unfolding over
@@ -142,6 +155,23 @@ laid-fits l at b h = rw (le-leb (at + length b) (length l) h)
 pub laid-kept : (l : List ℕ) (at : ℕ) (b : List ℕ) → length l < at + length b → laid l at b ≡ l
 unfolding laid
 laid-kept l at b h = rw (lt-leb (at + length b) (length l) h)
+
+-- fitting or not, it is as long
+pub length-laid : (l : List ℕ) (at : ℕ) (b : List ℕ) → length (laid l at b) ≡ length l
+length-laid l at b = by-fit (leb (at + length b) (length l)) refl
+  where
+    by-fit : (t : Bool) → leb (at + length b) (length l) ≡ t → length (laid l at b) ≡ length l
+    by-fit true e = let f = leb-true (at + length b) (length l) e in ap length (laid-fits l at b f) ∙ length-over l at b f
+    by-fit false e = ap length (laid-kept l at b (leb-false (at + length b) (length l) e))
+
+-- nothing laid
+pub laid-nil : (l : List ℕ) (at : ℕ) → laid l at [] ≡ l
+unfolding laid
+laid-nil l at = by-test (leb (at + 0) (length l))
+  where
+    by-test : (t : Bool) → cond t (over l at []) l ≡ l
+    by-test true = over-nil l at
+    by-test false = refl
 
 -- two things laid one after the other, where both fit
 pub laid-laid : (l : List ℕ) (at : ℕ) (a b : List ℕ) → at + length (a ++ b) ≤ length l

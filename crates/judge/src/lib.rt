@@ -33,7 +33,7 @@ fn plain_sixteen(v: &[u8], i: usize) -> bool
     let b13 = v[i + 13];
     let b14 = v[i + 14];
     let b15 = v[i + 15];
-    let zero = (b0 != 0)
+    let no_zero = (b0 != 0)
         & (b1 != 0)
         & (b2 != 0)
         & (b3 != 0)
@@ -49,7 +49,7 @@ fn plain_sixteen(v: &[u8], i: usize) -> bool
         & (b13 != 0)
         & (b14 != 0)
         & (b15 != 0);
-    let lf = (b0 != 10)
+    let no_lf = (b0 != 10)
         & (b1 != 10)
         & (b2 != 10)
         & (b3 != 10)
@@ -65,7 +65,7 @@ fn plain_sixteen(v: &[u8], i: usize) -> bool
         & (b13 != 10)
         & (b14 != 10)
         & (b15 != 10);
-    let cr = (b0 != 13)
+    let no_cr = (b0 != 13)
         & (b1 != 13)
         & (b2 != 13)
         & (b3 != 13)
@@ -81,7 +81,7 @@ fn plain_sixteen(v: &[u8], i: usize) -> bool
         & (b13 != 13)
         & (b14 != 13)
         & (b15 != 13);
-    zero & lf & cr
+    no_zero & no_lf & no_cr
 }
 
 // Whether v is a version: not empty, not too long, and without 0, 10 and 13. Looked through sixteen bytes at a time, then the rest.

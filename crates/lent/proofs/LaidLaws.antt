@@ -4,14 +4,8 @@ use mathlib.Core.Path.{_≡_, refl, ap, _∙_}
 use mathlib.Core.List.{List, [], _∷_, _++_}
 use native.Mathlib.Omega.{arith}
 use lib.ListN.{length, set, length-append}
-use lib.Seq.{sets-eq}
 use Rattle.buffers.specs.Bytes.{onto, over, laid}
-use Rattle.buffers.proofs.ByteLaws.{over-zero, length-over, over-over, laid-fits}
-
--- one store
-over-one : (l : List ℕ) (at a : ℕ) → at + 1 ≤ length l → set l at a ≡ over l at (a ∷ [])
-unfolding over
-over-one l at a h = sets-eq (a ∷ []) l at h
+use Rattle.buffers.proofs.ByteLaws.{over-zero, length-over, over-one, over-over, laid-fits}
 
 -- l is out with x at its beginning, and x ends at `at`
 pub record Begun (out : List ℕ) (at : ℕ) (x l : List ℕ) : Type 0 where

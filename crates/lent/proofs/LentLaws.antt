@@ -10,7 +10,6 @@ use Rattle.limits.specs.Limits.{kSize, exchangeSize}
 use Rattle.buffers.specs.Bytes.{zeros, onto, laid}
 use Rattle.wire.specs.Parts.{nothing}
 use Rattle.messages.specs.Messages.{fieldPart}
-use Rattle.exchange.specs.Causes.{initCause, replyCause}
 use Rattle.exchange.specs.Numbers.{isFault, Kind, accepted, refused, kind, byKind}
 use Rattle.exchange.specs.Record.{noLengths, ended, nextStep}
 use Rattle.exchange.specs.Steps.{Call, ownC, init, reply, secret, sign, verdict, stepNo, fedCause, stepNumber, number, withC, withS, withStage, taken, filled, countOf, secondOf, answered, roomAfter, outputAfter, stepPart, refusedRoom, started, startedRoom}
@@ -20,22 +19,22 @@ use Rattle.exchange.specs.declared.Exchange.{Exchange}
 use Rattle.exchange.specs.declared.Step.{Step}
 use Rattle.exchange.proofs.KindLaws.{kind-same, kind-fault, kind-other, kind-accepted}
 use Rattle.exchange.proofs.StepLaws.{step-known}
-use Rattle.stored.specs.Stored.{stageNumber, failNumber, encoded, fits, lengthsIn, LengthBytes, decoded, byFit, bySize}
-use Rattle.stored.specs.Changes.{put16, begun}
-use Rattle.stored.proofs.StoredLaws.{method-read, size-taken, size-left, fits-known, fit-taken}
+use Rattle.stored.specs.Stored.{stageNumber, failNumber, encoded, fits, lengthsIn, LengthBytes, decoded, byFit, bySize, lengthsTold, kTold}
+use Rattle.stored.specs.Changes.{put16, putHead}
+use Rattle.stored.proofs.StoredLaws.{role-read, method-read, size-taken, size-left, fits-known, fit-taken}
 use Rattle.stored.proofs.RoundTrip.{stored-again}
-use Rattle.stored.proofs.ChangeLaws.{stage-put, c-put, s-put, k-put, begun-is}
-use Rattle.lent.specs.Lent.{left, placeOf, tells, toldSize, writes, outputsAfter, bytesAfter, stepLeft, untouched, lentCall, startLeft, lentStart, lengthsOf, kOf, refusedBytes}
+use Rattle.stored.proofs.ChangeLaws.{stage-put, c-put, s-put, k-put, head-put}
+use Rattle.lent.specs.Lent.{left, placeOf, tells, toldSize, writes, outputsAfter, bytesAfter, stepLeft, untouched, lentCall, startLeft, lentStart, refusedBytes}
 
 -- ---- a refusal
 
 -- an ended exchange's bytes
-pub ended-bytes : (n role m : ℕ) → begun (zeros exchangeSize) 6 n role m 0 0 0 0 ≡ encoded (ended n role m)
+pub ended-bytes : (n role m : ℕ) → putHead (zeros exchangeSize) 6 n role m 0 0 0 0 ≡ encoded (ended n role m)
 unfolding ended
-ended-bytes n role m = begun-is (Failed n) role m 0 0 0 0
+ended-bytes n role m = head-put (Failed n) role m 0 0 0 0
 
 module _ (n : ℕ) (b : List ℕ) where
-  pub refused-fault : isFault n ≡ true → (ex : List ℕ) (r m : ℕ) → ex ≡ bySize b (begun (zeros exchangeSize) 6 n r m 0 0 0 0) b → r ≡ getD b 3 0 → m ≡ getD b 4 0
+  pub refused-fault : isFault n ≡ true → (ex : List ℕ) (r m : ℕ) → ex ≡ bySize b (putHead (zeros exchangeSize) 6 n r m 0 0 0 0) b → r ≡ getD b 3 0 → m ≡ getD b 4 0
       → ex ≡ refusedBytes n b
   unfolding decoded
   refused-fault f ex r m h p q =
@@ -101,11 +100,12 @@ module _ (b room : List ℕ) (q : Call) (outs : List (List ℕ)) where
       (λ i. left (sym z i) (t i) (k i) (r i) (o i))
       ∙ fit-taken b (stepLeft b d room q outs) (untouched b room (toldSize q) outs) f
 
-  -- the number, as it is judged
-  pub number-lent : (n fed : ℕ) → n ≡ byFit b (stepNumber (stepNo q) (decoded b) (length room) fed) 1 → fed ≡ fedCause (decoded b .role) (decoded b .method) q
+  -- the number, as it is judged: by role and method as they are read, and by what is fed
+  pub number-lent : (n r m fed : ℕ) → n ≡ byFit b (stepNumber (stepNo q) (decoded b) (length room) fed) 1 → r ≡ getD b 3 0 → m ≡ getD b 4 0 → fed ≡ fedCause r m q
       → n ≡ byFit b (number (decoded b) room q) 1
   unfolding number
-  number-lent n fed h f = h ∙ ap (λ (m : ℕ). byFit b (stepNumber (stepNo q) (decoded b) (length room) m) 1) f
+  number-lent n r m fed h p k f =
+      h ∙ (λ i. byFit b (stepNumber (stepNo q) (decoded b) (length room) ((f ∙ (λ j. fedCause (role-read b r p j) (method-read b m k j) q)) i)) 1)
 
   -- what its number tells
   pub accepted-known : (n : ℕ) → n ≡ byFit b (number (decoded b) room q) 1 → n ≡ 0 → (fits b ≡ true) × (number (decoded b) room q ≡ 0)
@@ -115,15 +115,6 @@ module _ (b room : List ℕ) (q : Call) (outs : List (List ℕ)) where
       by-fit : (t : Bool) → fits b ≡ t → cond t (number (decoded b) room q) 1 ≡ 0 → (t ≡ true) × (number (decoded b) room q ≡ 0)
       by-fit true w h = (refl, h)
       by-fit false w h = let v : ⊥ = omega arith in absurd v
-
--- what INIT and REPLY are judged by
-pub init-fed : (b p : List ℕ) (m fed : ℕ) → m ≡ getD b 4 0 → fed ≡ initCause m p → fed ≡ fedCause (decoded b .role) (decoded b .method) (init p)
-unfolding fedCause
-init-fed b p m fed h f = f ∙ ap (λ (k : ℕ). initCause k p) (method-read b m h)
-
-pub reply-fed : (b p : List ℕ) (m fed : ℕ) → m ≡ getD b 4 0 → fed ≡ replyCause m p → fed ≡ fedCause (decoded b .role) (decoded b .method) (reply p)
-unfolding fedCause
-reply-fed b p m fed h f = f ∙ ap (λ (k : ℕ). replyCause k p) (method-read b m h)
 
 -- ---- how an accepted step changes the bytes
 
@@ -157,8 +148,8 @@ pub record Opened (b room : List ℕ) (q : Call) : Type 0 where
   pub bytes-are : b ≡ encoded (decoded b)
   pub no-fail : failNumber (decoded b .stage) ≡ 0
   pub k-size : length (decoded b .k) ≡ kSize
-  pub lens-are : lengthsOf b ≡ decoded b .lens
-  pub k-is : kOf b ≡ decoded b .k
+  pub lens-are : lengthsTold b ≡ decoded b .lens
+  pub k-is : kTold b ≡ decoded b .k
 
 pub opened : (b room : List ℕ) (q : Call) (n : ℕ) → n ≡ byFit b (number (decoded b) room q) 1 → (n ≡ 0 → LengthBytes b) → n ≡ 0 → Opened b room q
 unfolding decoded

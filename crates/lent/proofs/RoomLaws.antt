@@ -11,8 +11,9 @@ use Rattle.wire.specs.Strings.{numberAt}
 use Rattle.wire.proofs.StringLaws.{number-at}
 use Rattle.methods.specs.Rows.{rowOf}
 use Rattle.methods.proofs.FormLaws.{length-most}
-use Rattle.transcript.specs.Fields.{field, fieldLength, sizeSum}
+use Rattle.transcript.specs.Fields.{field, sizeSum}
 use Rattle.transcript.proofs.RoomLaws.{length-field, fieldLength-most}
+use Rattle.transcript.proofs.FieldLaws.{fieldLength-none}
 use Rattle.exchange.specs.Record.{kLength}
 use Rattle.exchange.specs.Steps.{fieldsEnd}
 use Rattle.exchange.specs.declared.Stage.the-variants.{Started}
@@ -22,11 +23,6 @@ use Rattle.exchange.specs.declared.Stage.{Stage}
 use Rattle.exchange.specs.declared.Lengths.{Lengths}
 use Rattle.exchange.proofs.DueLaws.{Fitting, Due}
 use Rattle.exchange.proofs.StepLaws.{bounded, small, head-most, started-lengths, Small}
-
--- a missing field takes nothing
-none : (n : ℕ) → n ≡ 0 → fieldLength n ≡ 0
-unfolding fieldLength
-none n e = rw e
 
 -- ---- C joins at the end
 
@@ -45,9 +41,9 @@ joins n e room c d st h k =
           omega (
             arith,
             head-most (rowOf (e .method)) (e .lens) b,
-            none (e .lens .c) (z .0),
-            none (e .lens .ks) (z .1),
-            none (e .lens .s) (z .2),
+            fieldLength-none (e .lens .c) (z .0),
+            fieldLength-none (e .lens .ks) (z .1),
+            fieldLength-none (e .lens .s) (z .2),
             length-field c,
             fieldLength-most (length c),
             length-most (rowOf (e .method) .c) (length c) (k .len),

@@ -1,17 +1,16 @@
 -- What a call on an exchange in lent bytes answers and leaves, by the definitions of the step by value. Assumes nothing.
 use Prim.Native.Nat.{ℕ}
 use mathlib.Core.List.{List, [], _∷_, _++_}
-use lib.ListN.{length, drop}
+use lib.ListN.{length}
 use Rattle.buffers.specs.Bytes.{zeros}
 use Rattle.wire.specs.declared.Part.{Part}
 use Rattle.messages.specs.Messages.{initBytes}
 use Rattle.exchange.specs.Steps.{Call, ownC, init, reply, secret, sign, verdict, number, taken, roomAfter, replyOf, answered, outputAfter, stepPart, started, startedRoom}
 use Rattle.exchange.specs.Numbers.{kind, byKind}
-use Rattle.exchange.specs.Record.{noLengths, ended}
-use Rattle.exchange.specs.declared.Lengths.{Lengths}
+use Rattle.exchange.specs.Record.{ended}
 use Rattle.exchange.specs.declared.Exchange.{Exchange}
 use Rattle.exchange.specs.declared.Step.{Step}
-use Rattle.stored.specs.Stored.{encoded, lengthsIn, decoded, byFit, bySize}
+use Rattle.stored.specs.Stored.{encoded, decoded, byFit, bySize}
 
 -- the number; what goes through lent numbers; and the lent bytes as they are left: the exchange's, the room, the outputs
 pub record Left : Type 0 where
@@ -99,15 +98,6 @@ startLeft s room = left (s .number) [] (encoded (s .exchange)) room []
 unfoldable pub lentStart : List ℕ → ℕ → ℕ → List ℕ → List ℕ → List ℕ → List ℕ → List ℕ → Left
 lentStart b role m vc vs ic is room =
     bySize b (startLeft (started role m vc vs ic is (length room)) (startedRoom role m vc vs ic is room)) (untouched b room 0 [])
-
--- ---- what the layer below reads and leaves
-
--- lengths and K in bytes of an exchange's size; none in others
-abbrev pub lengthsOf : List ℕ → Lengths
-lengthsOf b = bySize b (lengthsIn b) noLengths
-
-abbrev pub kOf : List ℕ → List ℕ
-kOf b = bySize b (drop 19 b) []
 
 -- the bytes after a refusal, by its number alone
 abbrev pub refusedBytes : ℕ → List ℕ → List ℕ

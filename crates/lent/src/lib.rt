@@ -1,4 +1,4 @@
-// What a step does to an exchange in lent bytes and to the room: a refusal and a peer's fault, an exchange begun, C that joins, K_S and S
+// What a step does to an exchange in lent bytes and to the room: a refusal and a peer's fault, an exchange made, C that joins, K_S and S
 // around it, K handed out. Bytes of another size stay, and count as having no lengths and no K; no step gets here with them.
 use exchange::Lengths;
 ghost use mathlib.Core.Path.{_≡_};
@@ -9,9 +9,9 @@ ghost use Rattle.buffers.specs.Bytes.{zeros, laid};
 ghost use Rattle.wire.specs.Strings.{numberAt};
 ghost use Rattle.transcript.specs.Fields.{field, fieldSize, around};
 ghost use Rattle.exchange.specs.Steps.{headSize, fieldsSize, refusedRoom};
-ghost use Rattle.stored.specs.Stored.{bySize};
-ghost use Rattle.stored.specs.Changes.{put16, begun};
-ghost use Rattle.lent.specs.Lent.{lengthsOf, kOf, refusedBytes};
+ghost use Rattle.stored.specs.Stored.{bySize, lengthsTold, kTold};
+ghost use Rattle.stored.specs.Changes.{put16, putHead};
+ghost use Rattle.lent.specs.Lent.{refusedBytes};
 
 // The first and the last number that is a peer's fault.
 const FAULT_FIRST: usize = 10;
@@ -39,7 +39,7 @@ pub fn fields_end(l: Lengths) -> usize
 }
 
 // Makes lent bytes those of an exchange at a stage, with no length but those of both V and both I, and no K.
-pub fn begin(
+pub fn make(
     ex: &mut [u8],
     stage: u8,
     fail: u8,
@@ -50,7 +50,7 @@ pub fn begin(
     ic: usize,
     is: usize,
 )
-    ensures { λ _. ⌜ now (ex .exit) ≡ bySize (now (ex .entry)) (begun (zeros exchangeSize) stage fail role method vc vs ic is) (now (ex .entry)) ⌝ }
+    ensures { λ _. ⌜ now (ex .exit) ≡ bySize (now (ex .entry)) (putHead (zeros exchangeSize) stage fail role method vc vs ic is) (now (ex .entry)) ⌝ }
 {
     if ex.len() != limits::EXCHANGE_SIZE {
         return;
@@ -67,7 +67,7 @@ pub fn refuse(n: u8, ex: &mut [u8], room: &mut [u8]) -> u8
         transcript::wipe(room);
         let role = stored::byte_in(ex, stored::ROLE_AT);
         let method = stored::byte_in(ex, stored::METHOD_AT);
-        begin(ex, stored::FAILED, n, role, method, 0, 0, 0, 0);
+        make(ex, stored::FAILED, n, role, method, 0, 0, 0, 0);
         return n;
     }
     n
@@ -75,7 +75,7 @@ pub fn refuse(n: u8, ex: &mut [u8], room: &mut [u8]) -> u8
 
 // C joins the room at its end.
 pub fn with_c(ex: &mut [u8], room: &mut [u8], stage: u8, c: &[u8])
-    ensures { λ _. ⌜ (now (ex .exit) ≡ bySize (now (ex .entry)) (put16 (set (now (ex .entry)) 1 stage) 15 (length (now (c .entry)))) (now (ex .entry))) × (now (room .exit) ≡ laid (now (room .entry)) (fieldsSize (lengthsOf (now (ex .entry)))) (field (now (c .entry)))) ⌝ }
+    ensures { λ _. ⌜ (now (ex .exit) ≡ bySize (now (ex .entry)) (put16 (set (now (ex .entry)) 1 stage) 15 (length (now (c .entry)))) (now (ex .entry))) × (now (room .exit) ≡ laid (now (room .entry)) (fieldsSize (lengthsTold (now (ex .entry)))) (field (now (c .entry)))) ⌝ }
 {
     let l = stored::lengths_in(ex);
     transcript::put_field(room, fields_end(l), c);
@@ -83,9 +83,9 @@ pub fn with_c(ex: &mut [u8], room: &mut [u8], stage: u8, c: &[u8])
 }
 
 // K_S joins ahead of C, and S behind it.
-pub fn with_reply(ex: &mut [u8], room: &mut [u8], stage: u8, ks: &[u8], s: &[u8])
+pub fn with_s(ex: &mut [u8], room: &mut [u8], stage: u8, ks: &[u8], s: &[u8])
     ensures { λ _.
-        let l = lengthsOf (now (ex .entry)) in
+        let l = lengthsTold (now (ex .entry)) in
         ⌜ (now (ex .exit) ≡ bySize (now (ex .entry)) (put16 (put16 (set (now (ex .entry)) 1 stage) 13 (length (now (ks .entry)))) 17 (length (now (s .entry)))) (now (ex .entry))) × (now (room .exit) ≡ around (now (room .entry)) (headSize l) (fieldSize (l .c)) (now (ks .entry)) (now (s .entry))) ⌝ }
 {
     let l = stored::lengths_in(ex);
@@ -95,7 +95,7 @@ pub fn with_reply(ex: &mut [u8], room: &mut [u8], stage: u8, ks: &[u8], s: &[u8]
 
 // The last step: K goes to its output, and the exchange is complete. Returns K's length.
 pub fn finish(ex: &mut [u8], k_out: &mut [u8]) -> usize
-    ensures { λ r. ⌜ (r ≡ 4 + numberAt (kOf (now (ex .entry))) 0) × (now (ex .exit) ≡ bySize (now (ex .entry)) (set (now (ex .entry)) 1 5) (now (ex .entry))) × (now («k_out» .exit) ≡ laid (now («k_out» .entry)) 0 (kOf (now (ex .entry)))) ⌝ }
+    ensures { λ r. ⌜ (r ≡ 4 + numberAt (kTold (now (ex .entry))) 0) × (now (ex .exit) ≡ bySize (now (ex .entry)) (set (now (ex .entry)) 1 5) (now (ex .entry))) × (now («k_out» .exit) ≡ laid (now («k_out» .entry)) 0 (kTold (now (ex .entry)))) ⌝ }
 {
     let k = stored::k_in(ex);
     buffers::put_bytes(k_out, 0, k);

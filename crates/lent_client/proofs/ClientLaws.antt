@@ -4,7 +4,7 @@ use mathlib.Core.Path.{_≡_, refl, sym, ap, _∙_}
 use mathlib.Core.List.{List, [], _∷_, _++_, append-nil}
 use mathlib.Core.Bool.{Bool}
 use native.Mathlib.Omega.{arith}
-use lib.ListN.{length, getD, set}
+use lib.ListN.{length, set}
 use lib.Dec.{ltb}
 use borrow.Author.Tests.{le-leb, ltb-false}
 use Rattle.limits.specs.Limits.{blobMost, kSize, initLeast}
@@ -31,9 +31,8 @@ use Rattle.exchange.specs.declared.Lengths.{Lengths}
 use Rattle.exchange.proofs.CauseFacts.{method-row, own-c-formed, reply-formed}
 use Rattle.exchange.proofs.KindLaws.{kind-accepted}
 use Rattle.exchange.proofs.StepLaws.{bounded, small, head-most, next-1, step-known, step-accepted, size-fits, head-fits, fields-fits, Small}
-use Rattle.stored.specs.Stored.{encoded, decoded}
+use Rattle.stored.specs.Stored.{encoded}
 use Rattle.lent.specs.Lent.{placeOf, counts, tells}
-use Rattle.stored.proofs.StoredLaws.{method-read}
 use Rattle.lent.proofs.RoomLaws.{Joins, joins}
 use Rattle.lent.proofs.LaidLaws.{then-laid, begun-onto, begun-store}
 
@@ -58,10 +57,6 @@ module _ (out c o : List ℕ) (h : length (initBytes c) ≤ length out) (e : o �
   init-output-length = ap length init-laid ∙ length-onto out (initBytes c) h
 
 -- ---- own C
-
-pub own-c-fed : (b c : List ℕ) (out m fed : ℕ) → m ≡ getD b 4 0 → fed ≡ ownCCause m c out → fed ≡ fedCause (decoded b .role) (decoded b .method) (ownC c out)
-unfolding fedCause
-own-c-fed b c out m fed h f = f ∙ ap (λ (k : ℕ). ownCCause k c out) (method-read b m h)
 
 module _ (e : Exchange) (room c out : List ℕ) (z : number e room (ownC c (length out)) ≡ 0) where
   own-c-cause : ownCCause (e .method) c (length out) ≡ 0
@@ -165,10 +160,6 @@ module _ (e : Exchange) (room p : List ℕ) (z : number e room (reply p) ≡ 0) 
   reply-tells x y w a b c = rw (kind-accepted (number e room (reply p)) z) (λ i. placeOf (a i) ++ placeOf (b i) ++ placeOf (c i))
 
 -- ---- the verdict
-
-pub verdict-fed : (b : List ℕ) (s h : Bool) (out fed : ℕ) → fed ≡ verdictCause s h out → fed ≡ fedCause (decoded b .role) (decoded b .method) (verdict s h out)
-unfolding fedCause
-verdict-fed b s h out fed f = f
 
 module _ (e : Exchange) (room : List ℕ) (a b : Bool) (kOut : List ℕ) (z : number e room (verdict a b (length kOut)) ≡ 0) where
   -- the output takes K

@@ -49,7 +49,7 @@ pub fn read_reply(ex: &mut [u8], room: &mut [u8], payload: &[u8], places: &mut [
     let k = wire::string_part(payload, 1, 0);
     let v = wire::string_part(payload, 1, 1);
     let g = wire::string_part(payload, 1, 2);
-    lent::with_reply(
+    lent::with_s(
         ex,
         room,
         stored::REPLY_READ,

@@ -203,10 +203,6 @@ module _ (e : Exchange) (room g out kOut : List ℕ) where
   unfolding filled
   sign-room z = step-accepted e room (sign g (length out) (length kOut)) z .1
 
-pub sign-fed : (b g : List ℕ) (out kOut fed : ℕ) → fed ≡ signCause g out kOut → fed ≡ fedCause (decoded b .role) (decoded b .method) (sign g out kOut)
-unfolding fedCause
-sign-fed b g out kOut fed f = f
-
 -- refused: nothing changes
 pub sign-stays : (b room g out kOut : List ℕ) (n : ℕ) → n ≡ byFit b (number (decoded b) room (sign g (length out) (length kOut))) 1 → isFault n ≡ false
 unfolding byFit

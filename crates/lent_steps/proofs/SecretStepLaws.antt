@@ -34,11 +34,11 @@ use Rattle.exchange.specs.declared.Lengths.{Lengths}
 use Rattle.exchange.proofs.StepLaws.{bounded, small, step-known, step-accepted, Bounded, all-most, size-fits, head-fits, fields-fits, Small}
 use Rattle.exchange.specs.declared.Classical.{Classical}
 use Rattle.exchange.specs.declared.Kem.{Kem}
-use Rattle.stored.specs.Stored.{encoded, lengthsIn, decoded, bySize}
+use Rattle.stored.specs.Stored.{encoded, lengthsIn, decoded, bySize, lengthsTold}
 use Rattle.stored.specs.Changes.{put16}
-use Rattle.stored.proofs.StoredLaws.{role-read, method-read, size-taken, fits-known}
+use Rattle.stored.proofs.StoredLaws.{role-read, size-taken, fits-known}
 use Rattle.stored.proofs.RoundTrip.{Short, decoded-encoded, encoded-fits}
-use Rattle.lent.specs.Lent.{counts, tells, lengthsOf}
+use Rattle.lent.specs.Lent.{counts, tells}
 use Rattle.lent.proofs.LentLaws.{Opened, s-changed, k-changed}
 
 -- ---- K and its record
@@ -234,11 +234,6 @@ module _ (e : Exchange) (room : List ℕ) (cl : Classical) (x : List ℕ) (kem :
 
 -- ---- on lent bytes
 
-pub secret-fed : (b : List ℕ) (cl : Classical) (x : List ℕ) (kem : Kem) (d ks s : List ℕ) (r m fed : ℕ) → r ≡ getD b 3 0 → m ≡ getD b 4 0
-    → fed ≡ secretCause r m cl x kem d ks s → fed ≡ fedCause (decoded b .role) (decoded b .method) (secret cl x kem d ks s)
-unfolding fedCause
-secret-fed b cl x kem d ks s r m fed h k f = f ∙ (λ i. secretCause (role-read b r h i) (method-read b m k i) cl x kem d ks s)
-
 -- lengths within their bounds fit two bytes
 small-short : (l : Lengths) → Small l → Short l
 small-short l h = record {
@@ -256,7 +251,7 @@ module _ (e : Exchange) (b : List ℕ) (h : b ≡ encoded e) (k : length (e .k) 
   sized : length b ≡ exchangeSize
   sized = ap length h ∙ fits-known (encoded e) (encoded-fits e k) .0
 
-  lengths-there : Short (e .lens) → lengthsOf b ≡ e .lens
+  lengths-there : Short (e .lens) → lengthsTold b ≡ e .lens
   unfolding decoded
   lengths-there f =
       sym (size-taken b noLengths (lengthsIn b) sized) ∙ ap lengthsIn h ∙ ap (λ (y : Exchange). y .lens) (decoded-encoded e f)
@@ -269,8 +264,8 @@ module _ (b room : List ℕ) (cl : Classical) (x : List ℕ) (kem : Kem) (d ks s
   pub record Joined (role end len : ℕ) (ex₁ room₁ bytes src left ex : List ℕ) : Type 0 where
     pub role-is : role ≡ getD b 3 0
     pub own : ex₁ ≡ cond (eqb role server) (bySize b (put16 (put16 (set b 1 4) 13 (length ks)) 17 (length s)) b) b
-    pub own-room : room₁ ≡ cond (eqb role server) (around room (headSize (lengthsOf b)) (fieldSize (lengthsOf b .c)) ks s) room
-    pub end-is : end ≡ fieldsSize (lengthsOf ex₁)
+    pub own-room : room₁ ≡ cond (eqb role server) (around room (headSize (lengthsTold b)) (fieldSize (lengthsTold b .c)) ks s) room
+    pub end-is : end ≡ fieldsSize (lengthsTold ex₁)
     pub len-is : len ≡ length (kOf (decoded b .method) x d)
     pub bytes-are : bytes ≡ kRecord (kOf (decoded b .method) x d)
     pub src-is : src ≡ bytesAt bytes (inside (length bytes) (part 0 len))

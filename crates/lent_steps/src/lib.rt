@@ -13,9 +13,9 @@ ghost use Rattle.limits.specs.Limits.{server};
 ghost use Rattle.buffers.specs.Bytes.{onto};
 ghost use Rattle.transcript.specs.Fields.{field, fieldSize, around};
 ghost use Rattle.exchange.specs.Steps.{HeadFits, headSize, secret as secretStep};
-ghost use Rattle.stored.specs.Stored.{bySize};
+ghost use Rattle.stored.specs.Stored.{bySize, lengthsTold};
 ghost use Rattle.stored.specs.Changes.{put16};
-ghost use Rattle.lent.specs.Lent.{left, lentCall, lentStart, lengthsOf};
+ghost use Rattle.lent.specs.Lent.{left, lentCall, lentStart};
 
 // Starts an exchange: 2, 3, 4, or both V and both I go into the room.
 pub fn start(
@@ -35,11 +35,11 @@ pub fn start(
     }
     let n = judge::start_cause(role, method, vc, vs, ic, is, room.len());
     if n != 0 {
-        lent::begin(ex, stored::FAILED, n, 0, 0, 0, 0, 0, 0);
+        lent::make(ex, stored::FAILED, n, 0, 0, 0, 0, 0, 0);
         return n;
     }
     put_head(room, vc, vs, ic, is);
-    lent::begin(
+    lent::make(
         ex,
         stored::STARTED,
         0,
@@ -71,13 +71,13 @@ fn put_head(room: &mut [u8], vc: &[u8], vs: &[u8], ic: &[u8], is: &[u8])
 fn join_own(ex: &mut [u8], room: &mut [u8], role: u8, ks: &[u8], s: &[u8])
     ensures { λ _.
         let b = now (ex .entry) in
-        let l = lengthsOf b in
+        let l = lengthsTold b in
         ⌜ (now (ex .exit) ≡ cond (eqb role server) (bySize b (put16 (put16 (set b 1 4) 13 (length (now (ks .entry)))) 17 (length (now (s .entry)))) b) b) × (now (room .exit) ≡ cond (eqb role server) (around (now (room .entry)) (headSize l) (fieldSize (l .c)) (now (ks .entry)) (now (s .entry))) (now (room .entry))) ⌝ }
 {
     if role != limits::SERVER {
         return;
     }
-    lent::with_reply(ex, room, stored::SECRET_DONE, ks, s);
+    lent::with_s(ex, room, stored::SECRET_DONE, ks, s);
 }
 
 // The secret: K joins the room and the exchange. Told: the hash input's count.

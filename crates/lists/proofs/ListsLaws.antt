@@ -11,6 +11,7 @@ use Rattle.limits.specs.Limits.{stringMost, listCount, cookieSize, kexinitMost}
 use Rattle.limits.specs.Every.{every}
 use Rattle.limits.proofs.BoolLaws.{both}
 use Rattle.buffers.specs.Bytes.{onto, laid}
+use Rattle.buffers.proofs.ByteLaws.{laid-nil}
 use Rattle.wire.specs.Causes.{causeIf}
 use Rattle.wire.specs.Parts.{part, inside, bytesAt}
 use Rattle.wire.specs.Strings.{bytes32, strings}
@@ -23,7 +24,7 @@ use Rattle.arguments.specs.Arguments.{isYes}
 use Rattle.proposal.specs.Proposal.{kexinit, writeCause}
 use Rattle.proposal.proofs.WriterLaws.{length-kexinit, write-cookie, laid-length, stored-length, message-laid}
 use Rattle.lists.specs.Lists.{listAt, listsAt, goodAt, badAt, firstBad, proposed, tableOk, tableCause}
-use Rattle.lists.proofs.PutLaws.{laid-nil, all-good, all-length}
+use Rattle.lists.proofs.PutLaws.{all-good, all-length}
 
 module _ (s : List ℕ) (from to : ℕ) where
   -- a list that ends ahead of its beginning, or behind the buffer, is none
@@ -180,7 +181,7 @@ module _ (cookie s ends : List ℕ) (follows reserved : ℕ) (out : List ℕ) (b
                     let w = cause-left ∙ if-fails _ 5 0 (le-ltb (length out) (length (kexinit (proposed cookie s ends follows reserved))) (omega arith)) in
                     let x : o3 ≡ onto out (kexinit (proposed cookie s ends follows reserved)) =
                     message-laid out cookie (listsAt s ends 0 0 listCount) [] (isYes follows) reserved c (omega arith) (length s + 57) (length s + 57) p (omega arith) o1 o2 o2 o3 e1 e2
-                    (sym (laid-nil o2 (length s + 57) (omega arith)))
+                    (sym (laid-nil o2 (length s + 57)))
                     (e3 ∙ ap (λ (b : ℕ). laid (set o2 (length s + 57) b) (length s + 57 + 1) (bytes32 reserved)) q) in
                     let t = told-done (tableCause (length out) cookie s ends follows reserved) (kexinit (proposed cookie s ends follows reserved)) out (length s + 57 + 5) o3 w (sym n) x in
                     (t .0, (λ i. t .1 i ∷ (sym z ∙ f) i ∷ []), t .2)

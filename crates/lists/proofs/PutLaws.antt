@@ -1,27 +1,22 @@
 -- Ten lists laid one behind another: one turn of the loop, and what they take together. Assumes nothing.
 use Prim.Native.Nat.{ℕ, zero, suc, _+_, _-_, _*_, _≤_, _<_}
 use mathlib.Core.Path.{_≡_, refl, sym, ap, _∙_}
-use mathlib.Core.List.{List, [], _∷_, append-nil}
+use mathlib.Core.List.{List, [], _∷_}
 use mathlib.Core.Bool.{Bool, true, false, cond}
 use native.Mathlib.Omega.{arith}
-use native.Mathlib.Nat.{add-zero}
-use lib.ListN.{length, getD, length-take, length-drop, take-append-drop}
+use lib.ListN.{length, getD, length-take, length-drop}
 use lib.Dec.{leb, ltb}
 use borrow.Author.Tests.{leb-true, ltb-true, ltb-false}
 use Rattle.limits.specs.Limits.{listCount}
 use Rattle.limits.specs.Every.{every}
 use Rattle.limits.proofs.BoolLaws.{and-true, both}
 use Rattle.buffers.specs.Bytes.{over, laid}
-use Rattle.buffers.proofs.ByteLaws.{laid-fits, laid-laid}
+use Rattle.buffers.proofs.ByteLaws.{laid-nil, laid-laid}
 use Rattle.wire.specs.Strings.{string, strings}
 use Rattle.wire.proofs.StringLaws.{length-string}
 use Rattle.wire.proofs.StringsLaws.{length-strings}
 use Rattle.names.specs.Names.{goodList}
 use Rattle.lists.specs.Lists.{stands, listAt, listsAt, goodAt, badAt, firstBad}
-
-pub laid-nil : (l : List ℕ) (at : ℕ) → at ≤ length l → laid l at [] ≡ l
-unfolding over
-laid-nil l at h = laid-fits l at [] (omega arith) ∙ simp (append-nil, add-zero, take-append-drop)
 
 -- ---- one turn
 
@@ -65,7 +60,7 @@ module _ (s ends : List ℕ) (from i : ℕ) where
 -- nothing is left
 pub left-done : (l : List ℕ) (at : ℕ) (b : List ℕ) → length b ≡ 0 → at ≤ length l → laid l at b ≡ l
 unfolding over
-left-done l at [] e h = laid-nil l at h
+left-done l at [] e h = laid-nil l at
 left-done l at (x ∷ b) e h = let w : ⊥ = omega arith in absurd w
 
 -- ---- what good lists take

@@ -5,14 +5,13 @@ use mathlib.Core.List.{List, [], _∷_, _++_, append-assoc}
 use mathlib.Core.Bool.{Bool, true, false, cond, _&&_}
 use native.Mathlib.Omega.{arith}
 use lib.ListN.{length, set, length-append, length-set}
-use lib.Seq.{sets-eq}
 use lib.Dec.{leb, eqb}
 use borrow.Author.Tests.{le-leb, lt-leb, leb-true, leb-false, lt-ltb, le-ltb, eq-eqb, ne-eqb}
 use Rattle.limits.specs.Limits.{kexinitMost, cookieSize}
 use Rattle.limits.proofs.BoolLaws.{and-false}
 use Rattle.buffers.specs.Bytes.{onto, over, laid}
 use Rattle.wire.specs.Strings.{bytes32, string, strings}
-use Rattle.buffers.proofs.ByteLaws.{over-zero, length-over, over-over, laid-fits, laid-kept, laid-laid}
+use Rattle.buffers.proofs.ByteLaws.{over-zero, length-over, over-over, over-one, laid-fits, length-laid, laid-nil, laid-laid}
 use Rattle.wire.proofs.CauseLaws.{if-holds, if-fails, unless-holds, unless-fails}
 use Rattle.limits.specs.Every.{every}
 use Rattle.names.specs.Names.{goodList}
@@ -146,20 +145,7 @@ pub behind-is : (at : ℕ) (ls : List (List ℕ)) → behind at ls ≡ at + leng
 behind-is at [] = omega arith
 behind-is at (l ∷ ls) = behind-is (at + length (string l)) ls ∙ omega (arith, length-append (string l) (strings ls))
 
-laid-nothing : (out : List ℕ) (at : ℕ) → at ≤ length out → out ≡ laid out at []
-unfolding over
-laid-nothing out at h =
-    let k : at + length {A = ℕ} [] ≤ length out = omega arith in
-    sets-eq [] out at k ∙ sym (laid-fits out at [] k)
-
 -- laying changes no length, and no store does
-length-laid : (out : List ℕ) (at : ℕ) (b : List ℕ) → length (laid out at b) ≡ length out
-length-laid out at b = by-test (leb (at + length b) (length out)) refl
-  where
-    by-test : (t : Bool) → leb (at + length b) (length out) ≡ t → length (laid out at b) ≡ length out
-    by-test true e = let h = leb-true (at + length b) (length out) e in ap length (laid-fits out at b h) ∙ length-over out at b h
-    by-test false e = ap length (laid-kept out at b (leb-false (at + length b) (length out) e))
-
 pub laid-length : (o l b : List ℕ) (at : ℕ) → o ≡ laid l at b → length o ≡ length l
 laid-length o l b at e = ap length e ∙ length-laid l at b
 
@@ -167,7 +153,7 @@ pub stored-length : (o l b : List ℕ) (at i v : ℕ) → o ≡ laid (set l i v)
 stored-length o l b at i v e = ap length e ∙ length-laid (set l i v) at b ∙ length-set l i v
 
 pub put-laid : (out : List ℕ) (at : ℕ) (ls : List (List ℕ)) → at + length (strings ls) ≤ length out → put out at ls ≡ laid out at (strings ls)
-put-laid out at [] h = laid-nothing out at (omega arith)
+put-laid out at [] h = sym (laid-nil out at)
 put-laid out at (l ∷ ls) h =
     let n = length-append (string l) (strings ls) in
     let m = length-laid out at (string l) in
@@ -220,11 +206,6 @@ total-runs a b h =
     omega arith
 
 -- ---- the message laid piece by piece
-
--- one store
-pub over-one : (l : List ℕ) (at a : ℕ) → at + 1 ≤ length l → set l at a ≡ over l at (a ∷ [])
-unfolding over
-over-one l at a h = sets-eq (a ∷ []) l at h
 
 module _ (out : List ℕ) where
   -- the output begins with x, and y is laid behind it

@@ -11,7 +11,7 @@ use Rattle.exchange.specs.Steps.{withC, withS, withStage}
 use Rattle.exchange.specs.declared.Stage.{Stage}
 use Rattle.exchange.specs.declared.Exchange.{Exchange}
 use Rattle.stored.specs.Stored.{stageNumber, failNumber, headOf, encoded}
-use Rattle.stored.specs.Changes.{put16, begun}
+use Rattle.stored.specs.Changes.{put16, putHead}
 
 module _ (e : Exchange) (s : Stage) (f : failNumber (e .stage) ≡ failNumber s) where
   -- the stage alone
@@ -21,19 +21,19 @@ module _ (e : Exchange) (s : Stage) (f : failNumber (e .stage) ≡ failNumber s)
 
   -- with C's length
   pub c-put : (n : ℕ) → put16 (set (encoded e) 1 (stageNumber s)) 15 n ≡ encoded (withStage e s (withC (e .lens) n) (e .k))
-  unfolding encoded
+  unfolding encoded over
   c-put n = rw f
 
   -- with the lengths of K_S and S
   pub s-put : (m n : ℕ) → put16 (put16 (set (encoded e) 1 (stageNumber s)) 13 m) 17 n ≡ encoded (withStage e s (withS (e .lens) m n) (e .k))
-  unfolding encoded
+  unfolding encoded over
   s-put m n = rw f
 
 -- all that stands ahead of the length of K_S, where the rest is zeros
-pub begun-is : (s : Stage) (role m vc vs ic is : ℕ) → begun (zeros exchangeSize) (stageNumber s) (failNumber s) role m vc vs ic is
+pub head-put : (s : Stage) (role m vc vs ic is : ℕ) → putHead (zeros exchangeSize) (stageNumber s) (failNumber s) role m vc vs ic is
     ≡ encoded (record { stage = s; role = role; method = m; lens = record { vc = vc; vs = vs; ic = ic; is = is; ks = 0; c = 0; s = 0 }; k = zeros kSize })
-unfolding encoded
-begun-is s role m vc vs ic is = refl
+unfolding encoded over
+head-put s role m vc vs ic is = refl
 
 -- ---- K
 

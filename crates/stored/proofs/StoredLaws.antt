@@ -1,22 +1,22 @@
 -- Bytes and the exchanges that they hold: a law for each `return`, and what goes by the bytes. Assumes nothing.
-use Prim.Native.Nat.{ℕ, _+_, _-_, _/_, _%_, _≤_, _<_}
+use Prim.Native.Nat.{ℕ, _+_, _-_, _≤_, _<_}
 use mathlib.Core.Path.{_≡_, refl, sym, ap, _∙_}
 use mathlib.Core.List.{List, [], _++_, append-nil}
 use mathlib.Core.Bool.{Bool, true, false, _&&_, false≢true}
 use native.Mathlib.Omega.{arith}
 use lib.ListN.{length, set, length-set, getD, drop, length-append, length-drop, drop-of-length-le}
-use lib.Dec.{eqb, leb}
-use borrow.Author.Tests.{eq-eqb, ne-eqb, eqb-true, le-leb, lt-leb, leb-true, leb-false}
+use lib.Dec.{eqb}
+use borrow.Author.Tests.{eq-eqb, ne-eqb, eqb-true, le-leb, lt-leb}
 use Rattle.limits.specs.Limits.{kSize, exchangeSize, exchangeMark}
 use Rattle.buffers.specs.Bytes.{zeros, onto, laid}
-use Rattle.buffers.proofs.ByteLaws.{over-zero, laid-fits, laid-kept, laid-laid, length-over}
+use Rattle.buffers.proofs.ByteLaws.{over-zero, laid-fits, laid-nil, laid-laid, length-over}
 use Rattle.exchange.specs.Record.{noLengths}
 use Rattle.exchange.specs.declared.Stage.{Stage}
 use Rattle.exchange.specs.declared.Lengths.{Lengths}
 use Rattle.exchange.specs.declared.Exchange.{Exchange}
 use Rattle.exchange.specs.declared.Stage.the-variants.{Started, Failed}
 use Rattle.stored.specs.Changes.{put16}
-use Rattle.stored.specs.Stored.{stageOf, marksFit, fits, lengthsIn, decoded, blank, byFit, bySize}
+use Rattle.stored.specs.Stored.{stageOf, bytes16, marksFit, fits, lengthsIn, decoded, blank, byFit, bySize, lengthsTold, kTold}
 
 -- ---- stage and marks
 
@@ -49,10 +49,6 @@ laid-whole : (l b : List ℕ) → length b ≡ length l → laid l 0 b ≡ b
 unfolding onto
 laid-whole l b e =
     laid-fits l 0 b (omega arith) ∙ over-zero l b ∙ ap (λ (d : List ℕ). b ++ d) (drop-of-length-le l {i = length b} (omega arith)) ∙ append-nil b
-
-laid-none : (l : List ℕ) → laid l 0 [] ≡ l
-unfolding onto
-laid-none l = laid-fits l 0 [] (omega arith) ∙ over-zero l []
 
 pub laid-two : (l a b : List ℕ) (n : ℕ) → length a ≡ n → n + length b ≡ length l → laid (laid l 0 a) n b ≡ a ++ b
 laid-two l a b n e h =
@@ -108,22 +104,19 @@ marks-fits b h = rw (eq-eqb (length b) exchangeSize h)
 
 -- ---- what is changed is as long
 
-pub length-put16 : (b : List ℕ) (at n : ℕ) → length (put16 b at n) ≡ length b
-length-put16 b at n = length-set (set b at (n / 256 % 256)) (at + 1) (n % 256) ∙ length-set b at (n / 256 % 256)
+module _ (b : List ℕ) (s : ℕ) (h : length b ≡ exchangeSize) where
+  pub length-put : (at n : ℕ) → at + 2 ≤ exchangeSize → length (put16 (set b 1 s) at n) ≡ length b
+  length-put at n k = length-over (set b 1 s) at (bytes16 n) (omega (arith, length-set b 1 s)) ∙ length-set b 1 s
 
-pub length-laid : (l : List ℕ) (at : ℕ) (b : List ℕ) → length (laid l at b) ≡ length l
-length-laid l at b = by-fit (leb (at + length b) (length l)) refl
-  where
-    by-fit : (t : Bool) → leb (at + length b) (length l) ≡ t → length (laid l at b) ≡ length l
-    by-fit true e = let f = leb-true (at + length b) (length l) e in ap length (laid-fits l at b f) ∙ length-over l at b f
-    by-fit false e = ap length (laid-kept l at b (leb-false (at + length b) (length l) e))
+  pub length-puts : (at m bt n : ℕ) → at + 2 ≤ exchangeSize → bt + 2 ≤ exchangeSize → length (put16 (put16 (set b 1 s) at m) bt n) ≡ length b
+  length-puts at m bt n k l = length-over (put16 (set b 1 s) at m) bt (bytes16 n) (omega (arith, length-put at m k)) ∙ length-put at m k
 
 -- ---- load
 
-module _ (b k : List ℕ) (l : Lengths) (e : l ≡ bySize b (lengthsIn b) noLengths) (d : k ≡ laid (zeros kSize) 0 (bySize b (drop 19 b) [])) where
+module _ (b k : List ℕ) (l : Lengths) (e : l ≡ lengthsTold b) (d : k ≡ laid (zeros kSize) 0 (kTold b)) where
   pub loaded-blank : ¬ (length b ≡ exchangeSize) → _≡_ {A = Exchange} (record { stage = Started; role = 0; method = 0; lens = l; k = k }) (bySize b (decoded b) blank)
   loaded-blank h =
-      let m = d ∙ ap (laid (zeros kSize) 0) (sym (size-left b [] (drop 19 b) h)) ∙ laid-none (zeros kSize) in
+      let m = d ∙ ap (laid (zeros kSize) 0) (sym (size-left b [] (drop 19 b) h)) ∙ laid-nil (zeros kSize) 0 in
       (λ i. record { stage = Started; role = 0; method = 0; lens = (e ∙ sym (size-left b noLengths (lengthsIn b) h)) i; k = m i })
       ∙ size-left b blank (decoded b) h
 

@@ -120,3 +120,10 @@ byFit b new old = cond (fits b) new old
 
 unfoldable pub bySize : {A : Type 0} → List ℕ → A → A → A
 bySize b new old = cond (eqb (length b) exchangeSize) new old
+
+-- the lengths and K that bytes of an exchange's size tell; none in others
+abbrev pub lengthsTold : List ℕ → Lengths
+lengthsTold b = bySize b (lengthsIn b) noLengths
+
+abbrev pub kTold : List ℕ → List ℕ
+kTold b = bySize b (drop 19 b) []

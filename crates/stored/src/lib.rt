@@ -4,14 +4,12 @@ use exchange::Exchange;
 use exchange::Lengths;
 use exchange::Stage;
 ghost use mathlib.Core.Path.{_≡_};
-ghost use mathlib.Core.List.{[]};
 ghost use Prim.Native.Nat.{_+_, _*_, _≤_, _<_};
-ghost use lib.ListN.{length, getD, set, drop};
+ghost use lib.ListN.{length, getD, set};
 ghost use Rattle.limits.specs.Limits.{exchangeSize};
 ghost use Rattle.buffers.specs.Bytes.{laid};
-ghost use Rattle.exchange.specs.Record.{noLengths};
-ghost use Rattle.stored.specs.Stored.{stageNumber, failNumber, stageOf, marksFit, fits as fitting, number16, Halves, lengthsIn, LengthBytes, decoded, blank, bySize, encoded};
-ghost use Rattle.stored.specs.Changes.{put16, marked, begun};
+ghost use Rattle.stored.specs.Stored.{stageNumber, failNumber, stageOf, marksFit, fits as fitting, number16, Halves, LengthBytes, decoded, blank, bySize, lengthsTold, kTold, encoded};
+ghost use Rattle.stored.specs.Changes.{put16, putMarks, putHead};
 
 // Where the single bytes stand.
 const MARK_AT: usize = 0;
@@ -151,7 +149,7 @@ fn u16_at(b: &[u8], at: usize) -> usize
 
 // The lengths that bytes tell; none in bytes of another size.
 pub fn lengths_in(b: &[u8]) -> Lengths
-    ensures { λ r. ⌜ (r ≡ bySize (now (b .entry)) (lengthsIn (now (b .entry))) noLengths) × (length (now (b .entry)) ≡ exchangeSize → LengthBytes (now (b .entry))) ⌝ }
+    ensures { λ r. ⌜ (r ≡ lengthsTold (now (b .entry))) × (length (now (b .entry)) ≡ exchangeSize → LengthBytes (now (b .entry))) ⌝ }
 {
     if b.len() != limits::EXCHANGE_SIZE {
         return Lengths {
@@ -177,7 +175,7 @@ pub fn lengths_in(b: &[u8]) -> Lengths
 
 // K's record among the bytes; empty in bytes of another size.
 pub fn k_in(b: &[u8]) -> &[u8]
-    ensures { λ r. ⌜ now r ≡ bySize (now (b .entry)) (drop 19 (now (b .entry))) [] ⌝ }
+    ensures { λ r. ⌜ now r ≡ kTold (now (b .entry)) ⌝ }
 {
     if b.len() != limits::EXCHANGE_SIZE {
         return &b[0..0];
@@ -304,7 +302,7 @@ pub fn put_k(b: &mut [u8], stage: u8, k: &[u8])
 // The five single bytes.
 fn put_marks(b: &mut [u8], stage: u8, fail: u8, role: u8, method: u8)
     requires { ⌜ 5 ≤ length (now b) ⌝ }
-    ensures { λ _. ⌜ now (b .exit) ≡ marked (now (b .entry)) stage fail role method ⌝ }
+    ensures { λ _. ⌜ now (b .exit) ≡ putMarks (now (b .entry)) stage fail role method ⌝ }
 {
     b[MARK_AT] = limits::EXCHANGE_MARK;
     b[STAGE_AT] = stage;
@@ -325,7 +323,7 @@ pub fn put_head(
     ic: usize,
     is: usize,
 )
-    ensures { λ _. ⌜ now (b .exit) ≡ bySize (now (b .entry)) (begun (now (b .entry)) stage fail role method vc vs ic is) (now (b .entry)) ⌝ }
+    ensures { λ _. ⌜ now (b .exit) ≡ bySize (now (b .entry)) (putHead (now (b .entry)) stage fail role method vc vs ic is) (now (b .entry)) ⌝ }
 {
     if b.len() != limits::EXCHANGE_SIZE {
         return;

@@ -2,16 +2,14 @@
 use Prim.Native.Nat.{ℕ, zero, suc, _+_, _-_, _≤_, _<_}
 use mathlib.Core.Path.{_≡_, refl, sym, ap, _∙_}
 use mathlib.Core.List.{List, [], _∷_, _++_, append-assoc, append-nil}
-use mathlib.Core.Bool.{Bool, true, false, cond}
 use native.Mathlib.Omega.{arith}
 use native.Mathlib.Nat.{add-assoc, add-zero}
 use lib.ListN.{length, getD, take, drop, set, length-append, length-take, length-drop, drop-of-length-le, take-append-drop}
 use lib.Seq.{drop-at, take-take, take-append-le, drop-append-le, drop-drop, drop-cons, sets-eq, length-take-le, drop-length}
-use lib.Dec.{leb}
 use borrow.Author.Fill.{fill-more}
 use borrow.Author.Tests.{le-leb, lt-leb, eq-eqb, ne-eqb}
 use Rattle.buffers.specs.Bytes.{zeros, over, laid}
-use Rattle.buffers.proofs.ByteLaws.{length-over, over-over, laid-fits}
+use Rattle.buffers.proofs.ByteLaws.{length-over, over-over, laid-fits, laid-nil}
 use Rattle.transcript.specs.Fields.{sizeMost, field, fieldLength, fieldSize, sizeSum, around}
 use Rattle.transcript.proofs.RoomLaws.{length-field, fieldLength-most}
 
@@ -53,20 +51,6 @@ sizeSum-past a b h = rw (lt-leb (a + b) sizeMost h)
 -- of a field in hand
 pub size-of : (f : List ℕ) (r : ℕ) → r ≡ fieldSize (length f) → 4 + length f ≤ sizeMost → (r ≡ fieldLength (length f)) × (r ≤ 4 + length f)
 size-of f r e h = let g = e ∙ fieldSize-fits (length f) h in (g, omega (arith, fieldLength-most (length f)))
-
--- nothing laid
-pub over-nil : (l : List ℕ) (at : ℕ) → over l at [] ≡ l
-unfolding over
-over-nil l at = simp (append-nil, add-zero, take-append-drop)
-
--- the same, fitting or not
-pub laid-nil : (l : List ℕ) (at : ℕ) → laid l at [] ≡ l
-unfolding laid
-laid-nil l at = by-test (leb (at + 0) (length l))
-  where
-    by-test : (t : Bool) → cond t (over l at []) l ≡ l
-    by-test true = over-nil l at
-    by-test false = refl
 
 -- a missing field laid
 pub laid-missing : (l : List ℕ) (at : ℕ) (f : List ℕ) → length f ≡ 0 → l ≡ laid l at (field f)

@@ -7,7 +7,7 @@ ghost use lib.ListN.{length, take, drop};
 ghost use Rattle.buffers.specs.Bytes.{zeros, over, laid};
 ghost use Rattle.transcript.specs.Fields.{field, fieldSize, sizeSum, around};
 
-// Fills the whole room with zeros.
+// Fills a room, or the bytes of an exchange, with zeros.
 pub fn wipe(room: &mut [u8])
     ensures { λ _. ⌜ now (room .exit) ≡ zeros (length (now (room .entry))) ⌝ }
 {

@@ -22,8 +22,8 @@ byte-in-requires c κs = search needs
 byte-in-requires-2 : tie.Need-byte-in-requires-2
 byte-in-requires-2 c κs = search needs
 
-begin-requires : tie.Need-begin-requires
-begin-requires c κs = search needs
+make-requires : tie.Need-make-requires
+make-requires c κs = search needs
 
 same-length : tie.Need-same-length
 same-length c = search needs
@@ -35,7 +35,7 @@ returns : tie.Need-returns
 returns c =
     let a = c .before .before .before .before .before .before .before .before .before .before .before .before .before .before .before .before .args in
     let f = sym (c .before .before .before .before .before .before .before .before .before .before .before .before .before .in-range .ensures) ∙ c .before .before .before .before .before .before .before .before .before .before .before .before .if1 .taken in
-    (refl, refused-fault (a .n) (now (a .ex)) f _ _ _ (c .before .before .begin .ensures) (c .before .before .before .before .before .before .byte-in .ensures) (c .before .before .before .before .byte-in2 .ensures), c .before .before .before .before .before .before .before .before .before .before .wipe .ensures ∙ ap (λ (k : Kind). byKind k (now (a .room)) (now (a .room)) (zeros (length (now (a .room))))) (sym (kind-fault (a .n) f)))
+    (refl, refused-fault (a .n) (now (a .ex)) f _ _ _ (c .before .before .make .ensures) (c .before .before .before .before .before .before .byte-in .ensures) (c .before .before .before .before .byte-in2 .ensures), c .before .before .before .before .before .before .before .before .before .before .wipe .ensures ∙ ap (λ (k : Kind). byKind k (now (a .room)) (now (a .room)) (zeros (length (now (a .room))))) (sym (kind-fault (a .n) f)))
 
 returns-2 : tie.Need-returns-2
 returns-2 c =
@@ -51,7 +51,7 @@ refuse-spec =
     wipe-requires
     byte-in-requires
     byte-in-requires-2
-    begin-requires
+    make-requires
     same-length
     same-length-2
     returns

@@ -5,12 +5,12 @@ use mathlib.Core.List.{[], _∷_}
 use lib.ListN.{length}
 use denote.Ref.{now}
 use Rattle.messages.specs.Messages.{initBytes}
-use Rattle.exchange.specs.Steps.{ownC}
+use Rattle.exchange.specs.Steps.{ownC, fedCause}
 use Rattle.exchange.specs.declared.Stage.the-variants.{CSent}
 use Rattle.exchange.proofs.StepLaws.{output-accepted}
 use Rattle.stored.specs.Stored.{decoded}
 use Rattle.lent.proofs.LentLaws.{number-lent, call-refused, call-accepted, opened, c-changed}
-use Rattle.lent_client.proofs.ClientLaws.{own-c-fed, own-c-fits, own-c-tells, own-c-taken, own-c-room}
+use Rattle.lent_client.proofs.ClientLaws.{own-c-fits, own-c-tells, own-c-taken, own-c-room}
 use Rattle.lent_client.proofs.own_c.Statement.{statement}
 use Rattle.lent_client.proofs.own_c.Tie as tie
 
@@ -33,24 +33,26 @@ same-length-2 : tie.Need-same-length-2
 same-length-2 c = search needs
 
 returns : tie.Need-returns
+unfolding fedCause
 returns c =
     let a = c .before .before .before .before .before .before .before .before .before .before .before .before .before .before .before .before .before .args in
     let b = now (a .ex) in
     let r = now (a .room) in
     let q = ownC (now (a .c)) (length (now (a .out))) in
-    let m = number-lent b r q [] _ _ (c .before .before .before .before .before .before .before .before .step-number .ensures .0) (own-c-fed b (now (a .c)) (length (now (a .out))) _ _ (c .before .before .before .before .before .before .before .before .before .before .before .byte-in .ensures) (c .before .before .before .before .before .before .before .before .before .before .own-c-cause .ensures)) in
+    let m = number-lent b r q [] _ _ _ _ (c .before .before .before .before .before .before .before .before .step-number .ensures .0) refl (c .before .before .before .before .before .before .before .before .before .before .before .byte-in .ensures) (c .before .before .before .before .before .before .before .before .before .before .own-c-cause .ensures) in
     call-refused b r q (now (a .out) ∷ []) _ m (c .before .before .before .before .before .before .before .if1 .taken) _ _ _ (c .before .before .before .before .refuse .ensures .0) (c .before .before .before .before .refuse .ensures .1) (c .before .before .before .before .refuse .ensures .2)
 
 with-c-requires : tie.Need-with-c-requires
 with-c-requires c κs = search needs
 
 put-init-requires : tie.Need-put-init-requires
+unfolding fedCause
 put-init-requires c κs =
     let a = c .before .before .before .before .before .before .before .before .before .before .before .before .before .before .before .before .before .before .args in
     let b = now (a .ex) in
     let r = now (a .room) in
     let q = ownC (now (a .c)) (length (now (a .out))) in
-    let m = number-lent b r q [] _ _ (c .before .before .before .before .before .before .before .before .before .step-number .ensures .0) (own-c-fed b (now (a .c)) (length (now (a .out))) _ _ (c .before .before .before .before .before .before .before .before .before .before .before .before .byte-in .ensures) (c .before .before .before .before .before .before .before .before .before .before .before .own-c-cause .ensures)) in
+    let m = number-lent b r q [] _ _ _ _ (c .before .before .before .before .before .before .before .before .before .step-number .ensures .0) refl (c .before .before .before .before .before .before .before .before .before .before .before .before .byte-in .ensures) (c .before .before .before .before .before .before .before .before .before .before .before .own-c-cause .ensures) in
     let o = opened b r q _ m (c .before .before .before .before .before .before .before .before .before .step-number .ensures .1) (c .before .before .before .before .before .before .before .before .if1 .left) in
     let e = decoded b in
     let z = o .accepts in
@@ -69,12 +71,13 @@ same-length-5 : tie.Need-same-length-5
 same-length-5 c = search needs
 
 returns-2 : tie.Need-returns-2
+unfolding fedCause
 returns-2 c =
     let a = c .before .before .before .before .before .before .before .before .before .before .before .before .before .before .before .before .before .before .before .before .before .args in
     let b = now (a .ex) in
     let r = now (a .room) in
     let q = ownC (now (a .c)) (length (now (a .out))) in
-    let m = number-lent b r q [] _ _ (c .before .before .before .before .before .before .before .before .before .before .before .before .step-number .ensures .0) (own-c-fed b (now (a .c)) (length (now (a .out))) _ _ (c .before .before .before .before .before .before .before .before .before .before .before .before .before .before .before .byte-in .ensures) (c .before .before .before .before .before .before .before .before .before .before .before .before .before .before .own-c-cause .ensures)) in
+    let m = number-lent b r q [] _ _ _ _ (c .before .before .before .before .before .before .before .before .before .before .before .before .step-number .ensures .0) refl (c .before .before .before .before .before .before .before .before .before .before .before .before .before .before .before .byte-in .ensures) (c .before .before .before .before .before .before .before .before .before .before .before .before .before .before .own-c-cause .ensures) in
     let o = opened b r q _ m (c .before .before .before .before .before .before .before .before .before .before .before .before .step-number .ensures .1) (c .before .before .before .before .before .before .before .before .before .before .before .if1 .left) in
     let e = decoded b in
     let z = o .accepts in

@@ -1,10 +1,10 @@
 -- `lent_client::verdict` meets its contract. Assumes nothing.
 use borrow.Author.Needs.{needs}
-use mathlib.Core.Path.{ap, _∙_}
+use mathlib.Core.Path.{refl, ap, _∙_}
 use mathlib.Core.List.{[], _∷_}
 use lib.ListN.{length}
 use denote.Ref.{now}
-use Rattle.exchange.specs.Steps.{verdict}
+use Rattle.exchange.specs.Steps.{verdict, fedCause}
 use Rattle.exchange.proofs.StepLaws.{output-accepted}
 use Prim.Native.Nat.{ℕ}
 use mathlib.Core.List.{List}
@@ -13,7 +13,7 @@ use Rattle.buffers.specs.Bytes.{laid}
 use Rattle.lent.proofs.RoomLaws.{k-laid, k-length}
 use Rattle.stored.specs.Stored.{decoded}
 use Rattle.lent.proofs.LentLaws.{number-lent, call-refused, call-accepted, opened, completed}
-use Rattle.lent_client.proofs.ClientLaws.{verdict-fed, verdict-fits, verdict-tells, verdict-taken, verdict-room}
+use Rattle.lent_client.proofs.ClientLaws.{verdict-fits, verdict-tells, verdict-taken, verdict-room}
 use Rattle.lent_client.proofs.verdict.Statement.{statement}
 use Rattle.lent_client.proofs.verdict.Tie as tie
 
@@ -33,12 +33,13 @@ same-length-2 : tie.Need-same-length-2
 same-length-2 c = search needs
 
 returns : tie.Need-returns
+unfolding fedCause
 returns c =
     let a = c .before .before .before .before .before .before .before .before .before .before .before .before .before .before .args in
     let b = now (a .ex) in
     let r = now (a .room) in
     let q = verdict (a .signature) (a .host-key) (length (now (a .k-out))) in
-    let m = number-lent b r q [] _ _ (c .before .before .before .before .before .before .before .before .step-number .ensures .0) (verdict-fed b (a .signature) (a .host-key) (length (now (a .k-out))) _ (c .before .before .before .before .before .before .before .before .before .before .verdict-cause .ensures)) in
+    let m = number-lent b r q [] _ _ _ _ (c .before .before .before .before .before .before .before .before .step-number .ensures .0) refl refl (c .before .before .before .before .before .before .before .before .before .before .verdict-cause .ensures) in
     call-refused b r q (now (a .k-out) ∷ []) _ m (c .before .before .before .before .before .before .before .if1 .taken) _ _ _ (c .before .before .before .before .refuse .ensures .0) (c .before .before .before .before .refuse .ensures .1) (c .before .before .before .before .refuse .ensures .2)
 
 finish-requires : tie.Need-finish-requires
@@ -51,12 +52,13 @@ same-length-4 : tie.Need-same-length-4
 same-length-4 c = search needs
 
 returns-2 : tie.Need-returns-2
+unfolding fedCause
 returns-2 c =
     let a = c .before .before .before .before .before .before .before .before .before .before .before .before .before .before .args in
     let b = now (a .ex) in
     let r = now (a .room) in
     let q = verdict (a .signature) (a .host-key) (length (now (a .k-out))) in
-    let m = number-lent b r q [] _ _ (c .before .before .before .before .before .before .before .before .step-number .ensures .0) (verdict-fed b (a .signature) (a .host-key) (length (now (a .k-out))) _ (c .before .before .before .before .before .before .before .before .before .before .verdict-cause .ensures)) in
+    let m = number-lent b r q [] _ _ _ _ (c .before .before .before .before .before .before .before .before .step-number .ensures .0) refl refl (c .before .before .before .before .before .before .before .before .before .before .verdict-cause .ensures) in
     let o = opened b r q _ m (c .before .before .before .before .before .before .before .before .step-number .ensures .1) (c .before .before .before .before .before .before .before .if1 .left) in
     let e = decoded b in
     let z = o .accepts in

@@ -4,10 +4,10 @@ use mathlib.Core.Path.{refl, _∙_}
 use mathlib.Core.List.{[]}
 use denote.Ref.{now}
 use Rattle.judge_peer.proofs.PeerLaws.{field-read}
-use Rattle.exchange.specs.Steps.{init}
+use Rattle.exchange.specs.Steps.{init, fedCause}
 use Rattle.exchange.specs.declared.Stage.the-variants.{InitRead}
 use Rattle.stored.specs.Stored.{decoded}
-use Rattle.lent.proofs.LentLaws.{number-lent, init-fed, call-refused, call-accepted, opened, c-changed}
+use Rattle.lent.proofs.LentLaws.{number-lent, call-refused, call-accepted, opened, c-changed}
 use Rattle.lent_server.proofs.ServerLaws.{init-room, init-taken, init-tells}
 use Rattle.lent_server.proofs.read_init.Statement.{statement}
 use Rattle.lent_server.proofs.read_init.Tie as tie
@@ -31,12 +31,13 @@ same-length-2 : tie.Need-same-length-2
 same-length-2 c = search needs
 
 returns : tie.Need-returns
+unfolding fedCause
 returns c =
     let a = c .before .before .before .before .before .before .before .before .before .before .before .before .before .before .before .before .before .args in
     let b = now (a .ex) in
     let r = now (a .room) in
     let q = init (now (a .payload)) in
-    let m = number-lent b r q [] _ _ (c .before .before .before .before .before .before .before .before .step-number .ensures .0) (init-fed b (now (a .payload)) _ _ (c .before .before .before .before .before .before .before .before .before .before .before .byte-in .ensures) (c .before .before .before .before .before .before .before .before .before .before .init-cause .ensures)) in
+    let m = number-lent b r q [] _ _ _ _ (c .before .before .before .before .before .before .before .before .step-number .ensures .0) refl (c .before .before .before .before .before .before .before .before .before .before .before .byte-in .ensures) (c .before .before .before .before .before .before .before .before .before .before .init-cause .ensures) in
     call-refused b r q ([]) _ m (c .before .before .before .before .before .before .before .if1 .taken) _ _ _ (c .before .before .before .before .refuse .ensures .0) (c .before .before .before .before .refuse .ensures .1) (c .before .before .before .before .refuse .ensures .2)
 
 string-part-requires : tie.Need-string-part-requires
@@ -55,12 +56,13 @@ same-length-4 : tie.Need-same-length-4
 same-length-4 c = search needs
 
 returns-2 : tie.Need-returns-2
+unfolding fedCause
 returns-2 c =
     let a = c .before .before .before .before .before .before .before .before .before .before .before .before .before .before .before .before .before .before .before .before .args in
     let b = now (a .ex) in
     let r = now (a .room) in
     let q = init (now (a .payload)) in
-    let m = number-lent b r q [] _ _ (c .before .before .before .before .before .before .before .before .before .before .before .step-number .ensures .0) (init-fed b (now (a .payload)) _ _ (c .before .before .before .before .before .before .before .before .before .before .before .before .before .before .byte-in .ensures) (c .before .before .before .before .before .before .before .before .before .before .before .before .before .init-cause .ensures)) in
+    let m = number-lent b r q [] _ _ _ _ (c .before .before .before .before .before .before .before .before .before .before .before .step-number .ensures .0) refl (c .before .before .before .before .before .before .before .before .before .before .before .before .before .before .byte-in .ensures) (c .before .before .before .before .before .before .before .before .before .before .before .before .before .init-cause .ensures) in
     let o = opened b r q _ m (c .before .before .before .before .before .before .before .before .before .before .before .step-number .ensures .1) (c .before .before .before .before .before .before .before .before .before .before .if1 .left) in
     let e = decoded b in
     let z = o .accepts in

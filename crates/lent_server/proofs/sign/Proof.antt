@@ -11,21 +11,22 @@ use Rattle.wire.specs.Strings.{numberAt}
 use Rattle.wire.specs.Parts.{part, inside, bytesAt}
 use Rattle.messages.specs.Messages.{replyBytes}
 use Rattle.transcript.specs.Fields.{fieldSize}
-use Rattle.exchange.specs.Steps.{sign, replyOf, headSize}
+use Rattle.exchange.specs.Steps.{sign, replyOf, headSize, fedCause}
 use Rattle.exchange.specs.declared.Lengths.{Lengths}
 use Rattle.exchange.proofs.StepLaws.{output-accepted}
 use Rattle.lent.proofs.RoomLaws.{k-laid, k-length}
 use Rattle.stored.specs.Stored.{decoded}
 use Rattle.lent.proofs.LentLaws.{number-lent, call-refused, call-accepted, Opened, opened, refused-stays, completed}
-use Rattle.lent_server.proofs.ServerLaws.{Signable, sign-fed, sign-stays, sign-known, reply-sized, sign-sums, reply-stands, sign-tells, sign-taken, sign-room}
+use Rattle.lent_server.proofs.ServerLaws.{Signable, sign-stays, sign-known, reply-sized, sign-sums, reply-stands, sign-tells, sign-taken, sign-room}
 use Rattle.lent_server.proofs.sign.Statement.{statement}
 use Rattle.lent_server.proofs.sign.Tie as tie
 
 -- where the step is accepted: what its number tells of the bytes, and what the code relies on
 accepts : (j : tie.Else1) → let a = j .before .before .before .before .before .before .before .before .before .before .args in Opened (now (a .ex)) (now (a .room)) (sign (now (a .signature)) (length (now (a .out))) (length (now (a .k-out))))
+unfolding fedCause
 accepts j =
     let a = j .before .before .before .before .before .before .before .before .before .before .args in
-    opened (now (a .ex)) (now (a .room)) (sign (now (a .signature)) (length (now (a .out))) (length (now (a .k-out)))) _ (number-lent (now (a .ex)) (now (a .room)) (sign (now (a .signature)) (length (now (a .out))) (length (now (a .k-out)))) [] _ _ (j .before .step-number .ensures .0) (sign-fed (now (a .ex)) (now (a .signature)) (length (now (a .out))) (length (now (a .k-out))) _ (j .before .before .before .sign-cause .ensures))) (j .before .step-number .ensures .1) (j .if1 .left)
+    opened (now (a .ex)) (now (a .room)) (sign (now (a .signature)) (length (now (a .out))) (length (now (a .k-out)))) _ (number-lent (now (a .ex)) (now (a .room)) (sign (now (a .signature)) (length (now (a .out))) (length (now (a .k-out)))) [] _ _ _ _ (j .before .step-number .ensures .0) refl refl (j .before .before .before .sign-cause .ensures)) (j .before .step-number .ensures .1) (j .if1 .left)
 
 known : (j : tie.Else1) → let a = j .before .before .before .before .before .before .before .before .before .before .args in Signable (decoded (now (a .ex))) (now (a .room)) (now (a .signature)) (now (a .out)) (now (a .k-out))
 known j = let a = j .before .before .before .before .before .before .before .before .before .before .args in sign-known (decoded (now (a .ex))) (now (a .room)) (now (a .signature)) (now (a .out)) (now (a .k-out)) (accepts j .accepts)
@@ -76,11 +77,12 @@ same-length : tie.Need-same-length
 same-length c = search needs
 
 returns : tie.Need-returns
+unfolding fedCause
 returns c =
     let a = c .before .before .before .before .before .before .before .before .before .before .args in
     let b = now (a .ex) in
     let r = now (a .room) in
-    let m = number-lent b r (sign (now (a .signature)) (length (now (a .out))) (length (now (a .k-out)))) [] _ _ (c .before .step-number .ensures .0) (sign-fed (now (a .ex)) (now (a .signature)) (length (now (a .out))) (length (now (a .k-out))) _ (c .before .before .before .sign-cause .ensures)) in
+    let m = number-lent b r (sign (now (a .signature)) (length (now (a .out))) (length (now (a .k-out)))) [] _ _ _ _ (c .before .step-number .ensures .0) refl refl (c .before .before .before .sign-cause .ensures) in
     let f = sign-stays b r (now (a .signature)) (now (a .out)) (now (a .k-out)) _ m in
     call-refused b r (sign (now (a .signature)) (length (now (a .out))) (length (now (a .k-out)))) (now (a .out) ∷ now (a .k-out) ∷ []) _ m (c .if1 .taken) _ _ _ refl (refused-stays _ b b _ f) (refused-stays _ b r _ f)
 

@@ -11,8 +11,8 @@ returns c =
     let a = c .before .before .before .before .before .args in
     (rw (ne-eqb (a .role) server (c .if1 .taken)), rw (ne-eqb (a .role) server (c .if1 .taken)))
 
-with-reply-requires : tie.Need-with-reply-requires
-with-reply-requires c κs = search needs
+with-s-requires : tie.Need-with-s-requires
+with-s-requires c κs = search needs
 
 same-length : tie.Need-same-length
 same-length c = search needs
@@ -23,8 +23,8 @@ same-length-2 c = search needs
 returns-2 : tie.Need-returns-2
 returns-2 c =
     let a = c .before .before .before .before .before .before .before .before .before .before .before .before .args in
-    (c .before .before .before .before .with-reply .ensures .0 ∙ rw (eq-eqb (a .role) server (c .before .before .before .before .before .before .before .if1 .left)), c .before .before .before .before .with-reply .ensures .1 ∙ rw (eq-eqb (a .role) server (c .before .before .before .before .before .before .before .if1 .left)))
+    (c .before .before .before .before .with-s .ensures .0 ∙ rw (eq-eqb (a .role) server (c .before .before .before .before .before .before .before .if1 .left)), c .before .before .before .before .with-s .ensures .1 ∙ rw (eq-eqb (a .role) server (c .before .before .before .before .before .before .before .if1 .left)))
 
 pub join-own-spec : {M : Type 1} → statement M
 join-own-spec =
-    tie.close (tie.spec returns with-reply-requires same-length same-length-2 returns-2)
+    tie.close (tie.spec returns with-s-requires same-length same-length-2 returns-2)

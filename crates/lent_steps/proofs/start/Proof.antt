@@ -7,7 +7,7 @@ use denote.Ref.{now}
 use Rattle.exchange.specs.Record.{ended}
 use Rattle.exchange.specs.declared.Stage.the-variants.{Started}
 use Rattle.stored.proofs.StoredLaws.{size-taken}
-use Rattle.stored.proofs.ChangeLaws.{begun-is}
+use Rattle.stored.proofs.ChangeLaws.{head-put}
 use Rattle.lent.proofs.LentLaws.{ended-bytes, start-taken, start-left}
 use Rattle.lent_steps.proofs.StartLaws.{start-refused, start-fits, start-accepted}
 use Rattle.lent_steps.proofs.start.Statement.{statement}
@@ -21,8 +21,8 @@ returns c =
 start-cause-requires : tie.Need-start-cause-requires
 start-cause-requires c κs = search needs
 
-begin-requires : tie.Need-begin-requires
-begin-requires c κs = search needs
+make-requires : tie.Need-make-requires
+make-requires c κs = search needs
 
 same-length : tie.Need-same-length
 same-length c = search needs
@@ -33,15 +33,15 @@ returns-2 c =
     let b = now (a .ex) in
     let h = c .before .before .before .before .before .before .if1 .left in
     let s = start-refused (a .role) (a .method) (now (a .vc)) (now (a .vs)) (now (a .ic)) (now (a .is)) (now (a .room)) _ (c .before .before .before .before .before .start-cause .ensures) (ended (c .before .before .before .before .before .start-cause .result) 0 0) (c .before .before .before .before .if2 .taken) refl in
-    start-taken b (a .role) (a .method) (now (a .vc)) (now (a .vs)) (now (a .ic)) (now (a .is)) (now (a .room)) h _ _ _ _ (s .0) (c .before .before .begin .ensures ∙ sym (size-taken b b _ h) ∙ ended-bytes (c .before .before .before .before .before .start-cause .result) 0 0) (s .1)
+    start-taken b (a .role) (a .method) (now (a .vc)) (now (a .vs)) (now (a .ic)) (now (a .is)) (now (a .room)) h _ _ _ _ (s .0) (c .before .before .make .ensures ∙ sym (size-taken b b _ h) ∙ ended-bytes (c .before .before .before .before .before .start-cause .result) 0 0) (s .1)
 
 put-head-requires : tie.Need-put-head-requires
 put-head-requires c κs =
     let a = c .before .before .before .before .before .before .before .before .before .before .args in
     start-fits (a .role) (a .method) (now (a .vc)) (now (a .vs)) (now (a .ic)) (now (a .is)) (now (a .room)) _ (c .before .before .start-cause .ensures) (omega (arith, c .before .if2 .left))
 
-begin-requires-2 : tie.Need-begin-requires-2
-begin-requires-2 c κs = search needs
+make-requires-2 : tie.Need-make-requires-2
+make-requires-2 c κs = search needs
 
 same-length-2 : tie.Need-same-length-2
 same-length-2 c = search needs
@@ -55,7 +55,7 @@ returns-3 c =
     let b = now (a .ex) in
     let h = c .before .before .before .before .before .before .before .before .before .before .if1 .left in
     let s = start-accepted (a .role) (a .method) (now (a .vc)) (now (a .vs)) (now (a .ic)) (now (a .is)) (now (a .room)) _ (c .before .before .before .before .before .before .before .before .before .start-cause .ensures) (omega (arith, c .before .before .before .before .before .before .before .before .if2 .left)) _ (c .before .before .before .before .before .before .put-head .ensures) in
-    start-taken b (a .role) (a .method) (now (a .vc)) (now (a .vs)) (now (a .ic)) (now (a .is)) (now (a .room)) h _ _ _ _ (s .0) (c .before .before .begin2 .ensures ∙ sym (size-taken b b _ h) ∙ begun-is Started (a .role) (a .method) (length (now (a .vc))) (length (now (a .vs))) (length (now (a .ic))) (length (now (a .is)))) (s .1)
+    start-taken b (a .role) (a .method) (now (a .vc)) (now (a .vs)) (now (a .ic)) (now (a .is)) (now (a .room)) h _ _ _ _ (s .0) (c .before .before .make2 .ensures ∙ sym (size-taken b b _ h) ∙ head-put Started (a .role) (a .method) (length (now (a .vc))) (length (now (a .vs))) (length (now (a .ic))) (length (now (a .is)))) (s .1)
 
 pub start-spec : {M : Type 1} → statement M
 start-spec =
@@ -63,11 +63,11 @@ start-spec =
     (tie.spec
     returns
     start-cause-requires
-    begin-requires
+    make-requires
     same-length
     returns-2
     put-head-requires
-    begin-requires-2
+    make-requires-2
     same-length-2
     same-length-3
     returns-3)

@@ -9,19 +9,20 @@ use native.Mathlib.Omega.{arith}
 use Rattle.limits.specs.Limits.{kSize, roomLeast}
 use Rattle.methods.specs.Rows.{rowOf}
 use Rattle.exchange.specs.Causes.{kOf}
-use Rattle.exchange.specs.Steps.{secret, kRecord, fieldsSize}
+use Rattle.exchange.specs.Steps.{secret, kRecord, fieldsSize, fedCause}
 use Rattle.stored.specs.Stored.{decoded}
 use Rattle.lent.proofs.LentLaws.{number-lent, call-refused, call-accepted, Opened, opened}
 use Rattle.stored.proofs.StoredLaws.{method-read}
-use Rattle.lent_steps.proofs.SecretStepLaws.{secret-fed, secret-fits, key-kept, length-record, Done, secret-done}
+use Rattle.lent_steps.proofs.SecretStepLaws.{secret-fits, key-kept, length-record, Done, secret-done}
 use Rattle.lent_steps.proofs.take_secret.Statement.{statement}
 use Rattle.lent_steps.proofs.take_secret.Tie as tie
 
 -- where the step is accepted: what its number tells of the bytes
 accepts : (j : tie.Else1) → let a = j .before .before .before .before .before .before .before .before .before .before .before .before .before .before .args in Opened (now (a .ex)) (now (a .room)) (secret (a .cl) (now (a .x)) (a .kem) (now (a .digest)) (now (a .ks)) (now (a .s)))
+unfolding fedCause
 accepts j =
     let a = j .before .before .before .before .before .before .before .before .before .before .before .before .before .before .args in
-    opened (now (a .ex)) (now (a .room)) (secret (a .cl) (now (a .x)) (a .kem) (now (a .digest)) (now (a .ks)) (now (a .s))) _ (number-lent (now (a .ex)) (now (a .room)) (secret (a .cl) (now (a .x)) (a .kem) (now (a .digest)) (now (a .ks)) (now (a .s))) [] _ _ (j .before .step-number .ensures .0) (secret-fed (now (a .ex)) (a .cl) (now (a .x)) (a .kem) (now (a .digest)) (now (a .ks)) (now (a .s)) _ _ _ (j .before .before .before .before .before .before .byte-in .ensures) (j .before .before .before .before .byte-in2 .ensures) (j .before .before .before .secret-cause .ensures))) (j .before .step-number .ensures .1) (j .if1 .left)
+    opened (now (a .ex)) (now (a .room)) (secret (a .cl) (now (a .x)) (a .kem) (now (a .digest)) (now (a .ks)) (now (a .s))) _ (number-lent (now (a .ex)) (now (a .room)) (secret (a .cl) (now (a .x)) (a .kem) (now (a .digest)) (now (a .ks)) (now (a .s))) [] _ _ _ _ (j .before .step-number .ensures .0) (j .before .before .before .before .before .before .byte-in .ensures) (j .before .before .before .before .byte-in2 .ensures) (j .before .before .before .secret-cause .ensures)) (j .before .step-number .ensures .1) (j .if1 .left)
 
 -- and K: its length and its record
 key : (c : tie.After-k-of) →
@@ -79,12 +80,13 @@ same-length-2 : tie.Need-same-length-2
 same-length-2 c = search needs
 
 returns : tie.Need-returns
+unfolding fedCause
 returns c =
     let a = c .before .before .before .before .before .before .before .before .before .before .before .before .before .before .before .before .before .before .before .before .before .args in
     let b = now (a .ex) in
     let r = now (a .room) in
     let q = secret (a .cl) (now (a .x)) (a .kem) (now (a .digest)) (now (a .ks)) (now (a .s)) in
-    let m = number-lent b r q [] _ _ (c .before .before .before .before .before .before .before .before .step-number .ensures .0) (secret-fed b (a .cl) (now (a .x)) (a .kem) (now (a .digest)) (now (a .ks)) (now (a .s)) _ _ _ (c .before .before .before .before .before .before .before .before .before .before .before .before .before .byte-in .ensures) (c .before .before .before .before .before .before .before .before .before .before .before .byte-in2 .ensures) (c .before .before .before .before .before .before .before .before .before .before .secret-cause .ensures)) in
+    let m = number-lent b r q [] _ _ _ _ (c .before .before .before .before .before .before .before .before .step-number .ensures .0) (c .before .before .before .before .before .before .before .before .before .before .before .before .before .byte-in .ensures) (c .before .before .before .before .before .before .before .before .before .before .before .byte-in2 .ensures) (c .before .before .before .before .before .before .before .before .before .before .secret-cause .ensures) in
     call-refused b r q ([]) _ m (c .before .before .before .before .before .before .before .if1 .taken) _ _ _ (c .before .before .before .before .refuse .ensures .0) (c .before .before .before .before .refuse .ensures .1) (c .before .before .before .before .refuse .ensures .2)
 
 k-form-requires : tie.Need-k-form-requires

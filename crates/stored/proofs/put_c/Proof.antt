@@ -2,9 +2,9 @@
 use borrow.Author.Needs.{needs}
 use mathlib.Core.Path.{ap, _∙_}
 use native.Mathlib.Omega.{arith}
-use lib.ListN.{length, set, length-set}
+use lib.ListN.{length, length-set}
 use denote.Ref.{now}
-use Rattle.stored.proofs.StoredLaws.{size-taken, size-left, length-put16}
+use Rattle.stored.proofs.StoredLaws.{size-taken, size-left, length-put}
 use Rattle.stored.proofs.put_c.Statement.{statement}
 use Rattle.stored.proofs.put_c.Tie as tie
 
@@ -18,7 +18,7 @@ put-u16-requires : tie.Need-put-u16-requires
 put-u16-requires c κs = omega (arith, c .before .if1 .left, length-set (now (c .before .before .before .args .b)) 1 (c .before .before .before .args .stage))
 
 same-length : tie.Need-same-length
-same-length c = ap length (c .before .before .put-u16 .ensures) ∙ length-put16 (set (now (c .before .before .before .before .before .before .args .b)) 1 (c .before .before .before .before .before .before .args .stage)) 15 (c .before .before .before .before .before .before .args .c) ∙ length-set (now (c .before .before .before .before .before .before .args .b)) 1 (c .before .before .before .before .before .before .args .stage)
+same-length c = ap length (c .before .before .put-u16 .ensures) ∙ length-put (now (c .before .before .before .before .before .before .args .b)) (c .before .before .before .before .before .before .args .stage) (c .before .before .before .before .if1 .left) 15 (c .before .before .before .before .before .before .args .c) (omega arith)
 
 returns-2 : tie.Need-returns-2
 returns-2 c = c .before .before .put-u16 .ensures ∙ size-taken (now (c .before .before .before .before .before .before .args .b)) (now (c .before .before .before .before .before .before .args .b)) _ (c .before .before .before .before .if1 .left)

@@ -3,7 +3,8 @@ use borrow.Author.Needs.{needs}
 use mathlib.Core.Path.{ap, _∙_}
 use lib.ListN.{length, set, length-set}
 use denote.Ref.{now}
-use Rattle.stored.proofs.StoredLaws.{size-taken, size-left, length-laid}
+use Rattle.buffers.proofs.ByteLaws.{length-laid}
+use Rattle.stored.proofs.StoredLaws.{size-taken, size-left}
 use Rattle.stored.proofs.put_k.Statement.{statement}
 use Rattle.stored.proofs.put_k.Tie as tie
 

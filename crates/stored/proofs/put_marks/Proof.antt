@@ -1,9 +1,12 @@
 -- `stored::put_marks` meets its contract. Assumes nothing.
 use borrow.Author.Needs.{needs}
 use native.Mathlib.Omega.{arith}
+use mathlib.Core.List.{[], _∷_}
 use lib.ListN.{set, length-set}
+use lib.Seq.{sets-eq}
 use denote.Ref.{now}
 use Rattle.limits.specs.Limits.{exchangeMark}
+use Rattle.buffers.specs.Bytes.{over}
 use Rattle.stored.proofs.put_marks.Statement.{statement}
 use Rattle.stored.proofs.put_marks.Tie as tie
 
@@ -26,7 +29,8 @@ same-length : tie.Need-same-length
 same-length c = search needs
 
 returns : tie.Need-returns
-returns c = search needs
+unfolding over
+returns c = sets-eq (exchangeMark ∷ c .args .stage ∷ c .args .fail ∷ c .args .role ∷ c .args .method ∷ []) (now (c .args .b)) 0 (omega (arith, c .pre))
 
 pub put-marks-spec : {M : Type 1} → statement M
 put-marks-spec =

@@ -4,10 +4,10 @@ use Prim.Native.Nat.{ℕ}
 use mathlib.Core.Path.{ap, _∙_}
 use mathlib.Core.List.{List}
 use native.Mathlib.Omega.{arith}
-use lib.ListN.{length, set, length-set}
+use lib.ListN.{length, length-set}
 use denote.Ref.{now}
 use Rattle.stored.specs.Changes.{put16}
-use Rattle.stored.proofs.StoredLaws.{size-taken, size-left, length-put16}
+use Rattle.stored.proofs.StoredLaws.{size-taken, size-left, length-put, length-puts}
 use Rattle.stored.proofs.put_s.Statement.{statement}
 use Rattle.stored.proofs.put_s.Tie as tie
 
@@ -21,10 +21,10 @@ put-u16-requires : tie.Need-put-u16-requires
 put-u16-requires c κs = omega (arith, c .before .if1 .left, length-set (now (c .before .before .before .args .b)) 1 (c .before .before .before .args .stage))
 
 put-u16-requires-2 : tie.Need-put-u16-requires-2
-put-u16-requires-2 c κs = omega (arith, c .before .before .before .before .before .if1 .left, (ap length (c .before .before .before .put-u16 .ensures) ∙ length-put16 (set (now (c .before .before .before .before .before .before .before .args .b)) 1 (c .before .before .before .before .before .before .before .args .stage)) 13 (c .before .before .before .before .before .before .before .args .ks) ∙ length-set (now (c .before .before .before .before .before .before .before .args .b)) 1 (c .before .before .before .before .before .before .before .args .stage)))
+put-u16-requires-2 c κs = omega (arith, c .before .before .before .before .before .if1 .left, (ap length (c .before .before .before .put-u16 .ensures) ∙ length-put (now (c .before .before .before .before .before .before .before .args .b)) (c .before .before .before .before .before .before .before .args .stage) (c .before .before .before .before .before .if1 .left) 13 (c .before .before .before .before .before .before .before .args .ks) (omega arith)))
 
 same-length : tie.Need-same-length
-same-length c = ap length (c .before .before .put-u162 .ensures ∙ ap (λ (l : List ℕ). put16 l 17 (c .before .before .before .before .before .before .before .before .before .before .args .s)) (c .before .before .before .before .before .before .put-u16 .ensures)) ∙ length-put16 (put16 (set (now (c .before .before .before .before .before .before .before .before .before .before .args .b)) 1 (c .before .before .before .before .before .before .before .before .before .before .args .stage)) 13 (c .before .before .before .before .before .before .before .before .before .before .args .ks)) 17 (c .before .before .before .before .before .before .before .before .before .before .args .s) ∙ length-put16 (set (now (c .before .before .before .before .before .before .before .before .before .before .args .b)) 1 (c .before .before .before .before .before .before .before .before .before .before .args .stage)) 13 (c .before .before .before .before .before .before .before .before .before .before .args .ks) ∙ length-set (now (c .before .before .before .before .before .before .before .before .before .before .args .b)) 1 (c .before .before .before .before .before .before .before .before .before .before .args .stage)
+same-length c = ap length (c .before .before .put-u162 .ensures ∙ ap (λ (l : List ℕ). put16 l 17 (c .before .before .before .before .before .before .before .before .before .before .args .s)) (c .before .before .before .before .before .before .put-u16 .ensures)) ∙ length-puts (now (c .before .before .before .before .before .before .before .before .before .before .args .b)) (c .before .before .before .before .before .before .before .before .before .before .args .stage) (c .before .before .before .before .before .before .before .before .if1 .left) 13 (c .before .before .before .before .before .before .before .before .before .before .args .ks) 17 (c .before .before .before .before .before .before .before .before .before .before .args .s) (omega arith) (omega arith)
 
 returns-2 : tie.Need-returns-2
 returns-2 c = c .before .before .put-u162 .ensures ∙ ap (λ (l : List ℕ). put16 l 17 (c .before .before .before .before .before .before .before .before .before .before .args .s)) (c .before .before .before .before .before .before .put-u16 .ensures) ∙ size-taken (now (c .before .before .before .before .before .before .before .before .before .before .args .b)) (now (c .before .before .before .before .before .before .before .before .before .before .args .b)) _ (c .before .before .before .before .before .before .before .before .if1 .left)

@@ -4,6 +4,7 @@ use Prim.Native.Nat.{_/_, _%_}
 use native.Mathlib.Omega.{arith}
 use lib.ListN.{length-set}
 use denote.Ref.{now}
+use Rattle.buffers.proofs.ByteLaws.{over-two}
 use Rattle.stored.proofs.put_u16.Statement.{statement}
 use Rattle.stored.proofs.put_u16.Tie as tie
 
@@ -26,7 +27,7 @@ same-length : tie.Need-same-length
 same-length c = search needs
 
 returns : tie.Need-returns
-returns c = search needs
+returns c = over-two (now (c .args .b)) (c .args .at) (c .args .n / 256 % 256) (c .args .n % 256) (c .pre)
 
 pub put-u16-spec : {M : Type 1} → statement M
 put-u16-spec =

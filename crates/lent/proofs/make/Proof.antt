@@ -1,4 +1,4 @@
--- `lent::begin` meets its contract. Assumes nothing.
+-- `lent::make` meets its contract. Assumes nothing.
 use borrow.Author.Needs.{needs}
 use Prim.Native.Nat.{ℕ}
 use mathlib.Core.Path.{refl, sym, ap, _∙_}
@@ -7,15 +7,15 @@ use denote.Ref.{now}
 use Rattle.limits.specs.Limits.{exchangeSize}
 use Rattle.buffers.specs.Bytes.{zeros}
 use Rattle.stored.specs.Stored.{bySize}
-use Rattle.stored.specs.Changes.{begun}
+use Rattle.stored.specs.Changes.{putHead}
 use Rattle.stored.proofs.StoredLaws.{size-taken, size-left}
-use Rattle.lent.proofs.begin.Statement.{statement}
-use Rattle.lent.proofs.begin.Tie as tie
+use Rattle.lent.proofs.make.Statement.{statement}
+use Rattle.lent.proofs.make.Tie as tie
 
 returns : tie.Need-returns
 returns c =
     let a = c .before .before .args in
-    size-left (now (a .ex)) (now (a .ex)) (begun (zeros exchangeSize) (a .stage) (a .fail) (a .role) (a .method) (a .vc) (a .vs) (a .ic) (a .is)) (c .if1 .taken)
+    size-left (now (a .ex)) (now (a .ex)) (putHead (zeros exchangeSize) (a .stage) (a .fail) (a .role) (a .method) (a .vc) (a .vs) (a .ic) (a .is)) (c .if1 .taken)
 
 wipe-requires : tie.Need-wipe-requires
 wipe-requires c κs = search needs
@@ -29,11 +29,11 @@ same-length c = search needs
 returns-2 : tie.Need-returns-2
 returns-2 c =
     let a = c .before .before .before .before .before .before .before .before .before .before .args in
-    let F : List ℕ → List ℕ = λ (l : List ℕ). begun l (a .stage) (a .fail) (a .role) (a .method) (a .vc) (a .vs) (a .ic) (a .is) in
+    let F : List ℕ → List ℕ = λ (l : List ℕ). putHead l (a .stage) (a .fail) (a .role) (a .method) (a .vc) (a .vs) (a .ic) (a .is) in
     c .before .before .put-head .ensures
     ∙ ap (λ (l : List ℕ). bySize l (F l) l) (c .before .before .before .before .before .before .wipe .ensures ∙ ap zeros (c .before .before .before .before .before .before .before .before .if1 .left))
     ∙ sym (size-taken (zeros exchangeSize) (zeros exchangeSize) (F (zeros exchangeSize)) refl)
     ∙ size-taken (now (a .ex)) (now (a .ex)) (F (zeros exchangeSize)) (c .before .before .before .before .before .before .before .before .if1 .left)
 
-pub begin-spec : {M : Type 1} → statement M
-begin-spec = tie.close (tie.spec returns wipe-requires put-head-requires same-length returns-2)
+pub make-spec : {M : Type 1} → statement M
+make-spec = tie.close (tie.spec returns wipe-requires put-head-requires same-length returns-2)

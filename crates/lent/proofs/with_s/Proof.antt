@@ -1,12 +1,12 @@
--- `lent::with_reply` meets its contract. Assumes nothing.
+-- `lent::with_s` meets its contract. Assumes nothing.
 use borrow.Author.Needs.{needs}
 use mathlib.Core.Path.{ap, _∙_}
 use denote.Ref.{now}
 use Rattle.transcript.specs.Fields.{fieldSize, around}
 use Rattle.exchange.specs.Steps.{headSize}
 use Rattle.exchange.specs.declared.Lengths.{Lengths}
-use Rattle.lent.proofs.with_reply.Statement.{statement}
-use Rattle.lent.proofs.with_reply.Tie as tie
+use Rattle.lent.proofs.with_s.Statement.{statement}
+use Rattle.lent.proofs.with_s.Tie as tie
 
 lengths-in-requires : tie.Need-lengths-in-requires
 lengths-in-requires c κs = search needs
@@ -34,8 +34,8 @@ returns c =
     let a = c .before .before .before .before .before .before .before .before .before .before .before .before .before .before .before .before .args in
     (c .before .before .put-s .ensures, c .before .before .before .before .before .before .put-around .ensures ∙ (λ i. around (now (a .room)) ((c .before .before .before .before .before .before .before .before .head-end .ensures ∙ ap headSize (c .before .before .before .before .before .before .before .before .before .before .lengths-in .ensures .0)) i) ((c .before .before .before .before .before .before .before .field-size .ensures ∙ ap (λ (l : Lengths). fieldSize (l .c)) (c .before .before .before .before .before .before .before .before .before .before .lengths-in .ensures .0)) i) (now (a .ks)) (now (a .s))))
 
-pub with-reply-spec : {M : Type 1} → statement M
-with-reply-spec =
+pub with-s-spec : {M : Type 1} → statement M
+with-s-spec =
     tie.close
     (tie.spec
     lengths-in-requires
