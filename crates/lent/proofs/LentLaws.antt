@@ -20,10 +20,10 @@ use Rattle.exchange.specs.declared.Step.{Step}
 use Rattle.exchange.proofs.KindLaws.{kind-same, kind-fault, kind-other, kind-accepted}
 use Rattle.exchange.proofs.StepLaws.{step-known}
 use Rattle.stored.specs.Stored.{stageNumber, failNumber, encoded, fits, lengthsIn, LengthBytes, decoded, byFit, bySize, lengthsTold, kTold}
-use Rattle.stored.specs.Changes.{put16, putHead}
+use Rattle.changes.specs.Changes.{put16, putHead}
 use Rattle.stored.proofs.StoredLaws.{role-read, method-read, size-taken, size-left, fits-known, fit-taken}
 use Rattle.stored.proofs.RoundTrip.{stored-again}
-use Rattle.stored.proofs.ChangeLaws.{stage-put, c-put, s-put, k-put, head-put}
+use Rattle.changes.proofs.ChangeLaws.{stage-put, c-put, s-put, k-put, head-put}
 use Rattle.lent.specs.Lent.{left, placeOf, tells, toldSize, writes, outputsAfter, bytesAfter, stepLeft, untouched, lentCall, startLeft, lentStart, refusedBytes}
 
 -- ---- a refusal

@@ -10,7 +10,7 @@ ghost use Rattle.wire.specs.Strings.{numberAt};
 ghost use Rattle.transcript.specs.Fields.{field, fieldSize, around};
 ghost use Rattle.exchange.specs.Steps.{headSize, fieldsSize, refusedRoom};
 ghost use Rattle.stored.specs.Stored.{bySize, lengthsTold, kTold};
-ghost use Rattle.stored.specs.Changes.{put16, putHead};
+ghost use Rattle.changes.specs.Changes.{put16, putHead};
 ghost use Rattle.lent.specs.Lent.{refusedBytes};
 
 // The first and the last number that is a peer's fault.
@@ -56,7 +56,7 @@ pub fn make(
         return;
     }
     transcript::wipe(ex);
-    stored::put_head(ex, stage, fail, role, method, vc, vs, ic, is);
+    changes::put_head(ex, stage, fail, role, method, vc, vs, ic, is);
 }
 
 // What a refused step answers and leaves: a peer's fault wipes the room and ends the exchange, any other number changes nothing.
@@ -79,7 +79,7 @@ pub fn with_c(ex: &mut [u8], room: &mut [u8], stage: u8, c: &[u8])
 {
     let l = stored::lengths_in(ex);
     transcript::put_field(room, fields_end(l), c);
-    stored::put_c(ex, stage, c.len());
+    changes::put_c(ex, stage, c.len());
 }
 
 // K_S joins ahead of C, and S behind it.
@@ -90,7 +90,7 @@ pub fn with_s(ex: &mut [u8], room: &mut [u8], stage: u8, ks: &[u8], s: &[u8])
 {
     let l = stored::lengths_in(ex);
     transcript::put_around(room, head_end(l), transcript::field_size(l.c), ks, s);
-    stored::put_s(ex, stage, ks.len(), s.len());
+    changes::put_s(ex, stage, ks.len(), s.len());
 }
 
 // The last step: K goes to its output, and the exchange is complete. Returns K's length.
@@ -100,6 +100,6 @@ pub fn finish(ex: &mut [u8], k_out: &mut [u8]) -> usize
     let k = stored::k_in(ex);
     buffers::put_bytes(k_out, 0, k);
     let size = wire::u32_at(k, 0) as usize;
-    stored::put_stage(ex, stored::COMPLETE);
+    changes::put_stage(ex, stored::COMPLETE);
     4 + size
 }

@@ -35,7 +35,7 @@ use Rattle.exchange.proofs.StepLaws.{bounded, small, step-known, step-accepted,
 use Rattle.exchange.specs.declared.Classical.{Classical}
 use Rattle.exchange.specs.declared.Kem.{Kem}
 use Rattle.stored.specs.Stored.{encoded, lengthsIn, decoded, bySize, lengthsTold}
-use Rattle.stored.specs.Changes.{put16}
+use Rattle.changes.specs.Changes.{put16}
 use Rattle.stored.proofs.StoredLaws.{role-read, size-taken, fits-known}
 use Rattle.stored.proofs.RoundTrip.{Short, decoded-encoded, encoded-fits}
 use Rattle.lent.specs.Lent.{counts, tells}

@@ -14,7 +14,7 @@ ghost use Rattle.buffers.specs.Bytes.{onto};
 ghost use Rattle.transcript.specs.Fields.{field, fieldSize, around};
 ghost use Rattle.exchange.specs.Steps.{HeadFits, headSize, secret as secretStep};
 ghost use Rattle.stored.specs.Stored.{bySize, lengthsTold};
-ghost use Rattle.stored.specs.Changes.{put16};
+ghost use Rattle.changes.specs.Changes.{put16};
 ghost use Rattle.lent.specs.Lent.{left, lentCall, lentStart};
 
 // Starts an exchange: 2, 3, 4, or both V and both I go into the room.
@@ -112,7 +112,7 @@ pub fn take_secret(
     let l = stored::lengths_in(ex);
     let end = lent::fields_end(l);
     buffers::put_bytes(room, end, wire::part_of(&bytes, Part { start: 0, len }));
-    stored::put_k(ex, stored::SECRET_DONE, &bytes);
+    changes::put_k(ex, stored::SECRET_DONE, &bytes);
     *count = (end + len) as u64;
     0
 }

@@ -1,3 +1,2 @@
 pub mod StoredLaws
 pub mod RoundTrip
-pub mod ChangeLaws

@@ -4,19 +4,18 @@ use mathlib.Core.Path.{_≡_, refl, sym, ap, _∙_}
 use mathlib.Core.List.{List, [], _++_, append-nil}
 use mathlib.Core.Bool.{Bool, true, false, _&&_, false≢true}
 use native.Mathlib.Omega.{arith}
-use lib.ListN.{length, set, length-set, getD, drop, length-append, length-drop, drop-of-length-le}
+use lib.ListN.{length, getD, drop, length-append, length-drop, drop-of-length-le}
 use lib.Dec.{eqb}
 use borrow.Author.Tests.{eq-eqb, ne-eqb, eqb-true, le-leb, lt-leb}
 use Rattle.limits.specs.Limits.{kSize, exchangeSize, exchangeMark}
 use Rattle.buffers.specs.Bytes.{zeros, onto, laid}
-use Rattle.buffers.proofs.ByteLaws.{over-zero, laid-fits, laid-nil, laid-laid, length-over}
+use Rattle.buffers.proofs.ByteLaws.{over-zero, laid-fits, laid-nil, laid-laid}
 use Rattle.exchange.specs.Record.{noLengths}
 use Rattle.exchange.specs.declared.Stage.{Stage}
 use Rattle.exchange.specs.declared.Lengths.{Lengths}
 use Rattle.exchange.specs.declared.Exchange.{Exchange}
 use Rattle.exchange.specs.declared.Stage.the-variants.{Started, Failed}
-use Rattle.stored.specs.Changes.{put16}
-use Rattle.stored.specs.Stored.{stageOf, bytes16, marksFit, fits, lengthsIn, decoded, blank, byFit, bySize, lengthsTold, kTold}
+use Rattle.stored.specs.Stored.{stageOf, marksFit, fits, lengthsIn, decoded, blank, byFit, bySize, lengthsTold, kTold}
 
 -- ---- stage and marks
 
@@ -101,15 +100,6 @@ size-unfit b h = rw (ne-eqb (length b) exchangeSize h)
 pub marks-fits : (b : List ℕ) → length b ≡ exchangeSize → marksFit (getD b 0 0) (getD b 1 0) (getD b 2 0) ≡ fits b
 unfolding fits
 marks-fits b h = rw (eq-eqb (length b) exchangeSize h)
-
--- ---- what is changed is as long
-
-module _ (b : List ℕ) (s : ℕ) (h : length b ≡ exchangeSize) where
-  pub length-put : (at n : ℕ) → at + 2 ≤ exchangeSize → length (put16 (set b 1 s) at n) ≡ length b
-  length-put at n k = length-over (set b 1 s) at (bytes16 n) (omega (arith, length-set b 1 s)) ∙ length-set b 1 s
-
-  pub length-puts : (at m bt n : ℕ) → at + 2 ≤ exchangeSize → bt + 2 ≤ exchangeSize → length (put16 (put16 (set b 1 s) at m) bt n) ≡ length b
-  length-puts at m bt n k l = length-over (put16 (set b 1 s) at m) bt (bytes16 n) (omega (arith, length-put at m k)) ∙ length-put at m k
 
 -- ---- load
 

@@ -1,36 +1,34 @@
 // An exchange as the bytes that a host lends for it: the mark of the layout, stage, fail number, role and method a byte each, seven
-// lengths of two bytes, the highest first, and K. What a step reads of them, and what it changes.
+// lengths of two bytes, the highest first, and K. What a step reads of them.
 use exchange::Exchange;
 use exchange::Lengths;
 use exchange::Stage;
 ghost use mathlib.Core.Path.{_≡_};
 ghost use Prim.Native.Nat.{_+_, _*_, _≤_, _<_};
-ghost use lib.ListN.{length, getD, set};
+ghost use lib.ListN.{length, getD};
 ghost use Rattle.limits.specs.Limits.{exchangeSize};
-ghost use Rattle.buffers.specs.Bytes.{laid};
 ghost use Rattle.stored.specs.Stored.{stageNumber, failNumber, stageOf, marksFit, fits as fitting, number16, Halves, LengthBytes, decoded, blank, bySize, lengthsTold, kTold, encoded};
-ghost use Rattle.stored.specs.Changes.{put16, putMarks, putHead};
 
 // Where the single bytes stand.
-const MARK_AT: usize = 0;
+pub const MARK_AT: usize = 0;
 
-const STAGE_AT: usize = 1;
+pub const STAGE_AT: usize = 1;
 
-const FAIL_AT: usize = 2;
+pub const FAIL_AT: usize = 2;
 
 pub const ROLE_AT: usize = 3;
 
 pub const METHOD_AT: usize = 4;
 
 // Where the lengths of K_S, C and S stand, behind those of both V and both I.
-const KS_AT: usize = 13;
+pub const KS_AT: usize = 13;
 
-const C_AT: usize = 15;
+pub const C_AT: usize = 15;
 
-const S_AT: usize = 17;
+pub const S_AT: usize = 17;
 
 // Where K begins: behind five bytes and seven lengths.
-const K_AT: usize = 19;
+pub const K_AT: usize = 19;
 
 // The numbers of the stages.
 pub const STARTED: u8 = 0;
@@ -242,95 +240,4 @@ pub fn store(b: &mut [u8], x: Exchange)
     ];
     buffers::put_bytes(b, 0, &head);
     buffers::put_bytes(b, K_AT, &k);
-}
-
-// ---- what a step changes, in as many bytes as an exchange has; others stay
-
-// A length, in two bytes.
-fn put_u16(b: &mut [u8], at: usize, n: usize)
-    requires { ⌜ at + 2 ≤ length (now b) ⌝ }
-    ensures { λ _. ⌜ now (b .exit) ≡ put16 (now (b .entry)) at n ⌝ }
-{
-    b[at] = (n / 256 % 256) as u8;
-    b[at + 1] = (n % 256) as u8;
-}
-
-// The stage alone.
-pub fn put_stage(b: &mut [u8], stage: u8)
-    ensures { λ _. ⌜ now (b .exit) ≡ bySize (now (b .entry)) (set (now (b .entry)) 1 stage) (now (b .entry)) ⌝ }
-{
-    if b.len() != limits::EXCHANGE_SIZE {
-        return;
-    }
-    b[STAGE_AT] = stage;
-}
-
-// The stage, and C's length.
-pub fn put_c(b: &mut [u8], stage: u8, c: usize)
-    ensures { λ _. ⌜ now (b .exit) ≡ bySize (now (b .entry)) (put16 (set (now (b .entry)) 1 stage) 15 c) (now (b .entry)) ⌝ }
-{
-    if b.len() != limits::EXCHANGE_SIZE {
-        return;
-    }
-    b[STAGE_AT] = stage;
-    put_u16(b, C_AT, c);
-}
-
-// The stage, and the lengths of K_S and S.
-pub fn put_s(b: &mut [u8], stage: u8, ks: usize, s: usize)
-    ensures { λ _. ⌜ now (b .exit) ≡ bySize (now (b .entry)) (put16 (put16 (set (now (b .entry)) 1 stage) 13 ks) 17 s) (now (b .entry)) ⌝ }
-{
-    if b.len() != limits::EXCHANGE_SIZE {
-        return;
-    }
-    b[STAGE_AT] = stage;
-    put_u16(b, KS_AT, ks);
-    put_u16(b, S_AT, s);
-}
-
-// The stage, and K's record.
-pub fn put_k(b: &mut [u8], stage: u8, k: &[u8])
-    ensures { λ _. ⌜ now (b .exit) ≡ bySize (now (b .entry)) (laid (set (now (b .entry)) 1 stage) 19 (now (k .entry))) (now (b .entry)) ⌝ }
-{
-    if b.len() != limits::EXCHANGE_SIZE {
-        return;
-    }
-    b[STAGE_AT] = stage;
-    buffers::put_bytes(b, K_AT, k);
-}
-
-// The five single bytes.
-fn put_marks(b: &mut [u8], stage: u8, fail: u8, role: u8, method: u8)
-    requires { ⌜ 5 ≤ length (now b) ⌝ }
-    ensures { λ _. ⌜ now (b .exit) ≡ putMarks (now (b .entry)) stage fail role method ⌝ }
-{
-    b[MARK_AT] = limits::EXCHANGE_MARK;
-    b[STAGE_AT] = stage;
-    b[FAIL_AT] = fail;
-    b[ROLE_AT] = role;
-    b[METHOD_AT] = method;
-}
-
-// All that stands ahead of the length of K_S.
-pub fn put_head(
-    b: &mut [u8],
-    stage: u8,
-    fail: u8,
-    role: u8,
-    method: u8,
-    vc: usize,
-    vs: usize,
-    ic: usize,
-    is: usize,
-)
-    ensures { λ _. ⌜ now (b .exit) ≡ bySize (now (b .entry)) (putHead (now (b .entry)) stage fail role method vc vs ic is) (now (b .entry)) ⌝ }
-{
-    if b.len() != limits::EXCHANGE_SIZE {
-        return;
-    }
-    put_marks(b, stage, fail, role, method);
-    put_u16(b, 5, vc);
-    put_u16(b, 7, vs);
-    put_u16(b, 9, ic);
-    put_u16(b, 11, is);
 }

@@ -7,7 +7,7 @@ use denote.Ref.{now}
 use Rattle.limits.specs.Limits.{exchangeSize}
 use Rattle.buffers.specs.Bytes.{zeros}
 use Rattle.stored.specs.Stored.{bySize}
-use Rattle.stored.specs.Changes.{putHead}
+use Rattle.changes.specs.Changes.{putHead}
 use Rattle.stored.proofs.StoredLaws.{size-taken, size-left}
 use Rattle.lent.proofs.make.Statement.{statement}
 use Rattle.lent.proofs.make.Tie as tie

@@ -7,7 +7,7 @@ use denote.Ref.{now}
 use Rattle.exchange.specs.Record.{ended}
 use Rattle.exchange.specs.declared.Stage.the-variants.{Started}
 use Rattle.stored.proofs.StoredLaws.{size-taken}
-use Rattle.stored.proofs.ChangeLaws.{head-put}
+use Rattle.changes.proofs.ChangeLaws.{head-put}
 use Rattle.lent.proofs.LentLaws.{ended-bytes, start-taken, start-left}
 use Rattle.lent_steps.proofs.StartLaws.{start-refused, start-fits, start-accepted}
 use Rattle.lent_steps.proofs.start.Statement.{statement}

@@ -1,9 +1,9 @@
--- `stored::put_stage` meets its contract. Assumes nothing.
+-- `changes::put_stage` meets its contract. Assumes nothing.
 use borrow.Author.Needs.{needs}
 use denote.Ref.{now}
 use Rattle.stored.proofs.StoredLaws.{size-taken, size-left}
-use Rattle.stored.proofs.put_stage.Statement.{statement}
-use Rattle.stored.proofs.put_stage.Tie as tie
+use Rattle.changes.proofs.put_stage.Statement.{statement}
+use Rattle.changes.proofs.put_stage.Tie as tie
 
 returns : tie.Need-returns
 returns c = size-left (now (c .before .args .b)) (now (c .before .args .b)) _ (c .if1 .taken)

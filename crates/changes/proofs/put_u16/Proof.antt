@@ -1,12 +1,12 @@
--- `stored::put_u16` meets its contract. Assumes nothing.
+-- `changes::put_u16` meets its contract. Assumes nothing.
 use borrow.Author.Needs.{needs}
 use Prim.Native.Nat.{_/_, _%_}
 use native.Mathlib.Omega.{arith}
 use lib.ListN.{length-set}
 use denote.Ref.{now}
 use Rattle.buffers.proofs.ByteLaws.{over-two}
-use Rattle.stored.proofs.put_u16.Statement.{statement}
-use Rattle.stored.proofs.put_u16.Tie as tie
+use Rattle.changes.proofs.put_u16.Statement.{statement}
+use Rattle.changes.proofs.put_u16.Tie as tie
 
 cast-b : tie.Need-cast-b
 cast-b c = search needs

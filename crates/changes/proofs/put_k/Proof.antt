@@ -1,12 +1,12 @@
--- `stored::put_k` meets its contract. Assumes nothing.
+-- `changes::put_k` meets its contract. Assumes nothing.
 use borrow.Author.Needs.{needs}
 use mathlib.Core.Path.{ap, _∙_}
 use lib.ListN.{length, set, length-set}
 use denote.Ref.{now}
 use Rattle.buffers.proofs.ByteLaws.{length-laid}
 use Rattle.stored.proofs.StoredLaws.{size-taken, size-left}
-use Rattle.stored.proofs.put_k.Statement.{statement}
-use Rattle.stored.proofs.put_k.Tie as tie
+use Rattle.changes.proofs.put_k.Statement.{statement}
+use Rattle.changes.proofs.put_k.Tie as tie
 
 returns : tie.Need-returns
 returns c = size-left (now (c .before .before .before .args .b)) (now (c .before .before .before .args .b)) _ (c .if1 .taken)

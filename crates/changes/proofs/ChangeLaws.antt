@@ -1,17 +1,17 @@
 -- What a step changes in an exchange's bytes makes them the bytes of the changed exchange. Assumes nothing.
-use Prim.Native.Nat.{ℕ, suc, _+_}
+use Prim.Native.Nat.{ℕ, suc, _+_, _≤_}
 use mathlib.Core.Path.{_≡_, refl, sym, ap, _∙_}
 use mathlib.Core.List.{List, [], _∷_, _++_, append-nil}
 use native.Mathlib.Omega.{arith}
-use lib.ListN.{length, set, take, drop, length-append, drop-of-length-le}
+use lib.ListN.{length, length-set, set, take, drop, length-append, drop-of-length-le}
 use Rattle.limits.specs.Limits.{kSize, exchangeSize}
 use Rattle.buffers.specs.Bytes.{zeros, over, laid}
-use Rattle.buffers.proofs.ByteLaws.{laid-fits}
+use Rattle.buffers.proofs.ByteLaws.{length-over, laid-fits}
 use Rattle.exchange.specs.Steps.{withC, withS, withStage}
 use Rattle.exchange.specs.declared.Stage.{Stage}
 use Rattle.exchange.specs.declared.Exchange.{Exchange}
-use Rattle.stored.specs.Stored.{stageNumber, failNumber, headOf, encoded}
-use Rattle.stored.specs.Changes.{put16, putHead}
+use Rattle.stored.specs.Stored.{stageNumber, failNumber, bytes16, headOf, encoded}
+use Rattle.changes.specs.Changes.{put16, putHead}
 
 module _ (e : Exchange) (s : Stage) (f : failNumber (e .stage) ≡ failNumber s) where
   -- the stage alone
@@ -53,3 +53,12 @@ k-put e s k f l m =
     ap (λ (b : List ℕ). laid b 19 k) (stage-put e s f)
     ∙ laid-fits (headOf x ++ e .k) 19 k (omega (arith, length-append (headOf x) (e .k)))
     ∙ over-tail (headOf x) (e .k) k (l ∙ sym m)
+
+-- ---- what is changed is as long
+
+module _ (b : List ℕ) (s : ℕ) (h : length b ≡ exchangeSize) where
+  pub length-put : (at n : ℕ) → at + 2 ≤ exchangeSize → length (put16 (set b 1 s) at n) ≡ length b
+  length-put at n k = length-over (set b 1 s) at (bytes16 n) (omega (arith, length-set b 1 s)) ∙ length-set b 1 s
+
+  pub length-puts : (at m bt n : ℕ) → at + 2 ≤ exchangeSize → bt + 2 ≤ exchangeSize → length (put16 (put16 (set b 1 s) at m) bt n) ≡ length b
+  length-puts at m bt n k l = length-over (put16 (set b 1 s) at m) bt (bytes16 n) (omega (arith, length-put at m k)) ∙ length-put at m k

@@ -1,4 +1,4 @@
--- `stored::put_marks` meets its contract. Assumes nothing.
+-- `changes::put_marks` meets its contract. Assumes nothing.
 use borrow.Author.Needs.{needs}
 use native.Mathlib.Omega.{arith}
 use mathlib.Core.List.{[], _∷_}
@@ -7,8 +7,8 @@ use lib.Seq.{sets-eq}
 use denote.Ref.{now}
 use Rattle.limits.specs.Limits.{exchangeMark}
 use Rattle.buffers.specs.Bytes.{over}
-use Rattle.stored.proofs.put_marks.Statement.{statement}
-use Rattle.stored.proofs.put_marks.Tie as tie
+use Rattle.changes.proofs.put_marks.Statement.{statement}
+use Rattle.changes.proofs.put_marks.Tie as tie
 
 slice-write-b : tie.Need-slice-write-b
 slice-write-b c = search needs

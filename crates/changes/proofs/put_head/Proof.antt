@@ -1,13 +1,13 @@
--- `stored::put_head` meets its contract. Assumes nothing.
+-- `changes::put_head` meets its contract. Assumes nothing.
 use borrow.Author.Needs.{needs}
 use Prim.Native.Nat.{ℕ}
 use mathlib.Core.Path.{ap, _∙_}
 use mathlib.Core.List.{List}
 use denote.Ref.{now}
-use Rattle.stored.specs.Changes.{put16}
+use Rattle.changes.specs.Changes.{put16}
 use Rattle.stored.proofs.StoredLaws.{size-taken, size-left}
-use Rattle.stored.proofs.put_head.Statement.{statement}
-use Rattle.stored.proofs.put_head.Tie as tie
+use Rattle.changes.proofs.put_head.Statement.{statement}
+use Rattle.changes.proofs.put_head.Tie as tie
 
 returns : tie.Need-returns
 returns c = size-left (now (c .before .before .args .b)) (now (c .before .before .args .b)) _ (c .if1 .taken)

@@ -1,12 +1,13 @@
--- `stored::put_c` meets its contract. Assumes nothing.
+-- `changes::put_c` meets its contract. Assumes nothing.
 use borrow.Author.Needs.{needs}
 use mathlib.Core.Path.{ap, _∙_}
 use native.Mathlib.Omega.{arith}
 use lib.ListN.{length, length-set}
 use denote.Ref.{now}
-use Rattle.stored.proofs.StoredLaws.{size-taken, size-left, length-put}
-use Rattle.stored.proofs.put_c.Statement.{statement}
-use Rattle.stored.proofs.put_c.Tie as tie
+use Rattle.stored.proofs.StoredLaws.{size-taken, size-left}
+use Rattle.changes.proofs.ChangeLaws.{length-put}
+use Rattle.changes.proofs.put_c.Statement.{statement}
+use Rattle.changes.proofs.put_c.Tie as tie
 
 returns : tie.Need-returns
 returns c = size-left (now (c .before .before .args .b)) (now (c .before .before .args .b)) _ (c .if1 .taken)

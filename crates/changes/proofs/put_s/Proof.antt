@@ -1,4 +1,4 @@
--- `stored::put_s` meets its contract. Assumes nothing.
+-- `changes::put_s` meets its contract. Assumes nothing.
 use borrow.Author.Needs.{needs}
 use Prim.Native.Nat.{ℕ}
 use mathlib.Core.Path.{ap, _∙_}
@@ -6,10 +6,11 @@ use mathlib.Core.List.{List}
 use native.Mathlib.Omega.{arith}
 use lib.ListN.{length, length-set}
 use denote.Ref.{now}
-use Rattle.stored.specs.Changes.{put16}
-use Rattle.stored.proofs.StoredLaws.{size-taken, size-left, length-put, length-puts}
-use Rattle.stored.proofs.put_s.Statement.{statement}
-use Rattle.stored.proofs.put_s.Tie as tie
+use Rattle.changes.specs.Changes.{put16}
+use Rattle.stored.proofs.StoredLaws.{size-taken, size-left}
+use Rattle.changes.proofs.ChangeLaws.{length-put, length-puts}
+use Rattle.changes.proofs.put_s.Statement.{statement}
+use Rattle.changes.proofs.put_s.Tie as tie
 
 returns : tie.Need-returns
 returns c = size-left (now (c .before .before .args .b)) (now (c .before .before .args .b)) _ (c .if1 .taken)
