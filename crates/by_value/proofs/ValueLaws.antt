@@ -2,19 +2,19 @@
 use Prim.Native.Nat.{ℕ, _<_}
 use mathlib.Core.Path.{_≡_, refl, sym, ap, _∙_}
 use mathlib.Core.List.{List, []}
-use mathlib.Core.Bool.{Bool, true, false, cond, _&&_, false≢true}
+use mathlib.Core.Bool.{Bool, true, false, not, cond, _&&_, false≢true}
 use native.Mathlib.Omega.{arith}
 use lib.ListN.{length}
 use lib.Dec.{leb, eqb}
 use borrow.Author.Tests.{leb-true, le-leb}
-use Rattle.limits.specs.Limits.{kSize, exchangeSize}
-use Rattle.limits.proofs.BoolLaws.{and-true, both}
+use Rattle.limits.specs.Limits.{lengthMost, kSize, exchangeSize}
+use Rattle.limits.proofs.BoolLaws.{and-true, both, holds, fails}
 use Rattle.buffers.specs.Bytes.{zeros}
 use Rattle.wire.proofs.CauseLaws.{unless-fails}
 use Rattle.exchange.specs.Causes.{startCause}
 use Rattle.exchange.specs.Record.{due}
 use Rattle.exchange.specs.Numbers.{Kind, accepted, refused, fault, kind, byKind}
-use Rattle.exchange.specs.Steps.{Call, number, stepNumber, secondOf, countOf, exchangeAfter, roomAfter, answered, started, startedRoom}
+use Rattle.exchange.specs.Steps.{Call, number, stepNumber, secondOf, countOf, exchangeAfter, roomAfter, answered, started, startedRoom, refusedStep}
 use Rattle.exchange.specs.declared.Lengths.{Lengths}
 use Rattle.exchange.specs.declared.Exchange.{Exchange}
 use Rattle.exchange.specs.declared.Step.{Step}
@@ -25,86 +25,86 @@ use Rattle.stored.proofs.RoundTrip.{Short, decoded-encoded, encoded-fits}
 use Rattle.lent.specs.Lent.{Left, left, writes, outputsAfter, untouched, lentCall, startLeft, lentStart}
 use Rattle.lent.proofs.Kept.{Storable, step-storable, start-storable, lent-is-step, long-not-due, long-refused}
 use Rattle.lent.proofs.AsStep.{AsStep, as-step}
-use Rattle.by_value.specs.ByValue.{fitTwo, fitsTwo, back}
+use Rattle.by_value.specs.ByValue.{fitsTwo, withExchange, back}
 
 -- ---- lengths that two bytes hold
 
-four : (a b c d : ℕ) → fitTwo a b c d ≡ true → (a < 65536) × (b < 65536) × (c < 65536) × (d < 65536)
-four a b c d h =
-    let p = and-true (leb a 65535 && leb b 65535 && leb c 65535) (leb d 65535) h in
-    let q = and-true (leb a 65535 && leb b 65535) (leb c 65535) (p .0) in
-    let r = and-true (leb a 65535) (leb b 65535) (q .0) in
-    let x = leb-true a 65535 (r .0) in
-    let y = leb-true b 65535 (r .1) in
-    let z = leb-true c 65535 (q .1) in
-    let w = leb-true d 65535 (p .1) in
-    (omega arith, omega arith, omega arith, omega arith)
+one : (n : ℕ) → leb n lengthMost ≡ true → n < 65536
+one n h = let k = leb-true n lengthMost h in omega arith
 
-four-back : (a b c d : ℕ) → a < 65536 → b < 65536 → c < 65536 → d < 65536 → fitTwo a b c d ≡ true
-four-back a b c d h k l m =
-    rw (le-leb a 65535 (omega arith), le-leb b 65535 (omega arith), le-leb c 65535 (omega arith), le-leb d 65535 (omega arith))
+one-back : (n : ℕ) → n < 65536 → leb n lengthMost ≡ true
+one-back n h = le-leb n lengthMost (omega arith)
 
-pub short-known : (l : Lengths) → fitsTwo l ≡ true → Short l
+first : (a b : Bool) → a && b ≡ true → a ≡ true
+first a b h = and-true a b h .0
+
+last : (a b : Bool) → a && b ≡ true → b ≡ true
+last a b h = and-true a b h .1
+
+short-known : (l : Lengths) → fitsTwo l ≡ true → Short l
 unfolding fitsTwo
-short-known l h =
-    let p = and-true (fitTwo (l .vc) (l .vs) (l .ic) (l .is)) (fitTwo (l .ks) (l .c) (l .s) 0) h in
-    let a = four (l .vc) (l .vs) (l .ic) (l .is) (p .0) in
-    let b = four (l .ks) (l .c) (l .s) 0 (p .1) in
-    record { vc = a .0; vs = a .1; ic = a .2; is = a .3; ks = b .0; c = b .1; s = b .2 }
+short-known l h = search (first, last, one)
 
-long-known : (l : Lengths) → fitsTwo l ≡ false → ¬ Short l
+short-fits : (l : Lengths) → Short l → fitsTwo l ≡ true
 unfolding fitsTwo
-long-known l h s =
-    false≢true (sym h ∙ both (four-back (l .vc) (l .vs) (l .ic) (l .is) (s .vc) (s .vs) (s .ic) (s .is)) (four-back (l .ks) (l .c) (l .s) 0 (s .ks) (s .c) (s .s) (omega arith)))
+short-fits l s = search (both, one-back)
 
 -- ---- the bytes
 
-module _ (e : Exchange) (k : length (e .k) ≡ kSize) where
-  pub storable : fitsTwo (e .lens) ≡ true → Storable e
-  storable h = record { short = short-known (e .lens) h; k-size = k }
+-- what `lay` answers, and makes of as many zeros as an exchange has bytes
+abbrev Laid : Exchange → Bool → List ℕ → Type 0
+Laid e t b = (t ≡ fitsTwo (e .lens)) × (b ≡ withExchange (zeros exchangeSize) e)
 
-  -- an exchange laid into as many zeros
-  pub laid-bytes : (b : List ℕ) → b ≡ bySize (zeros exchangeSize) (encoded e) (zeros exchangeSize) → b ≡ encoded e
-  laid-bytes b h = h ∙ sym (size-taken (zeros exchangeSize) (zeros exchangeSize) (encoded e) refl)
+module _ (e : Exchange) (t : Bool) (b : List ℕ) (l : Laid e t b) where
+  laid-long : not t ≡ true → ¬ Short (e .lens)
+  laid-long h s = false≢true (sym (fails (l .0) h) ∙ short-fits (e .lens) s)
+
+  laid-short : not t ≡ false → length (e .k) ≡ kSize → Storable e × (b ≡ encoded e)
+  unfolding withExchange
+  laid-short h k =
+      let f = holds (l .0) h in
+      (record { short = short-known (e .lens) f; k-size = k }, l .1 ∙ rw f (sym (size-taken (zeros exchangeSize) (zeros exchangeSize) (encoded e) refl)))
 
 -- the exchange comes back
-pub exchange-back : (x : Exchange) (b : List ℕ) → Storable x → b ≡ encoded x → bySize b (decoded b) blank ≡ x
+exchange-back : (x : Exchange) (b : List ℕ) → Storable x → b ≡ encoded x → bySize b (decoded b) blank ≡ x
 exchange-back x b h e =
     let n : length b ≡ exchangeSize = ap length e ∙ fits-known (encoded x) (encoded-fits x (h .k-size)) .0 in
     sym (size-taken b blank (decoded b) n) ∙ ap decoded e ∙ decoded-encoded x (h .short)
 
 -- ---- a step's number
 
-pub number-long : (n : ℕ) (e : Exchange) (room fed : ℕ) → fitsTwo (e .lens) ≡ false → 1 ≡ stepNumber n e room fed
-unfolding stepNumber
-number-long n e room fed h = sym (unless-fails (due n e) 1 _ (long-not-due n e (long-known (e .lens) h)))
+module _ (n : ℕ) (e : Exchange) (room fed : ℕ) (t : Bool) (b : List ℕ) (l : Laid e t b) where
+  pub number-long : not t ≡ true → 1 ≡ stepNumber n e room fed
+  unfolding stepNumber
+  number-long h = sym (unless-fails (due n e) 1 _ (long-not-due n e (laid-long e t b l h)))
 
-pub number-value : (n : ℕ) (e : Exchange) (room fed r : ℕ) (b : List ℕ) → Storable e → b ≡ encoded e → r ≡ byFit b (stepNumber n (decoded b) room fed) 1 → r ≡ stepNumber n e room fed
-number-value n e room fed r b h p f =
-    f ∙ ap (λ (l : List ℕ). byFit l (stepNumber n (decoded l) room fed) 1) p ∙ lent-is-step (λ (x : Exchange). stepNumber n x room fed) 1 e h
+  pub number-value : not t ≡ false → length (e .k) ≡ kSize → (r : ℕ) → r ≡ byFit b (stepNumber n (decoded b) room fed) 1 → r ≡ stepNumber n e room fed
+  number-value h k r f =
+      let s = laid-short e t b l h k in
+      f ∙ ap (λ (y : List ℕ). byFit y (stepNumber n (decoded y) room fed) 1) (s .1) ∙ lent-is-step (λ (x : Exchange). stepNumber n x room fed) 1 e (s .0)
 
 -- ---- a step
 
-module _ (e : Exchange) (room : List ℕ) (q : Call) (outs : List (List ℕ)) where
+module _ (e : Exchange) (room : List ℕ) (q : Call) (t : Bool) (b : List ℕ) (l : Laid e t b) where
   -- one that the bytes cannot hold
-  pub value-long : fitsTwo (e .lens) ≡ false
-      → (_≡_ {A = Step} (record { number = 1; count = 0; second = 0; exchange = e }) (answered e room q)) × (room ≡ roomAfter e room q) × (¬ (number e room q ≡ 0))
+  pub value-long : not t ≡ true → (refusedStep 1 e ≡ answered e room q) × (room ≡ roomAfter e room q) × (¬ (number e room q ≡ 0))
   unfolding kind
   value-long h =
-      let n = long-refused e room q (long-known (e .lens) h) in
+      let n = long-refused e room q (laid-long e t b l h) in
       let s = step-refused e room q 1 (sym n) (λ z. let w : ⊥ = omega arith in w) in
       (s .0, s .1, (λ z. let w : ⊥ = omega (arith, n, z) in w))
 
-  module _ (h : Storable e) (n : ℕ) (told ex room′ : List ℕ) (outs′ : List (List ℕ)) (b : List ℕ) (p : b ≡ encoded e) (l : left n told ex room′ outs′ ≡ lentCall b room q outs) where
+  module _ (h : not t ≡ false) (k : length (e .k) ≡ kSize) (outs : List (List ℕ)) (n : ℕ) (told ex room′ : List ℕ) (outs′ : List (List ℕ)) (c : left n told ex room′ outs′ ≡ lentCall b room q outs) where
     -- others: what was told, by the step's counts
     pub value-step : (count second : ℕ) → (AsStep e room q outs n told ex room′ outs′ → (count ≡ answered e room q .count) × (second ≡ answered e room q .second))
         → (back n count second ex ≡ answered e room q) × (room′ ≡ roomAfter e room q) × (outs′ ≡ outputsAfter (number e room q) outs (writes e room q))
     unfolding back answered
     value-step count second f =
-        let a = as-step b e room q outs n told ex room′ outs′ p h l in
-        let c = f a in
-        let x = exchange-back (exchangeAfter e room q) ex (step-storable e room q h) (a .exchange-is) in
-        ((λ i. record { number = a .number-is i; count = c .0 i; second = c .1 i; exchange = x i }), a .room-is, a .outputs-are)
+        let s = laid-short e t b l h k in
+        let a = as-step b e room q outs n told ex room′ outs′ (s .1) (s .0) c in
+        let d = f a in
+        let x = exchange-back (exchangeAfter e room q) ex (step-storable e room q (s .0)) (a .exchange-is) in
+        ((λ i. record { number = a .number-is i; count = d .0 i; second = d .1 i; exchange = x i }), a .room-is, a .outputs-are)
 
 -- counts that no number tells
 pub count-none : (e : Exchange) (room : List ℕ) (q : Call) → countOf e room q ≡ 0 → 0 ≡ answered e room q .count

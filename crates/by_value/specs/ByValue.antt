@@ -1,18 +1,28 @@
 -- An exchange by value as bytes of its own. Assumes nothing.
 use Prim.Native.Nat.{ℕ}
 use mathlib.Core.List.{List}
-use mathlib.Core.Bool.{Bool, _&&_}
+use mathlib.Core.Bool.{Bool, cond, _&&_}
 use lib.Dec.{leb}
+use Rattle.limits.specs.Limits.{lengthMost}
 use Rattle.exchange.specs.declared.Lengths.{Lengths}
+use Rattle.exchange.specs.declared.Exchange.{Exchange}
 use Rattle.exchange.specs.declared.Step.{Step}
-use Rattle.stored.specs.Stored.{decoded, blank, bySize}
+use Rattle.stored.specs.Stored.{encoded, decoded, blank, bySize}
 
 -- lengths that two bytes hold
-abbrev pub fitTwo : ℕ → ℕ → ℕ → ℕ → Bool
-fitTwo a b c d = leb a 65535 && leb b 65535 && leb c 65535 && leb d 65535
-
 unfoldable pub fitsTwo : Lengths → Bool
-fitsTwo l = fitTwo (l .vc) (l .vs) (l .ic) (l .is) && fitTwo (l .ks) (l .c) (l .s) 0
+fitsTwo l =
+    leb (l .vc) lengthMost
+    && leb (l .vs) lengthMost
+    && leb (l .ic) lengthMost
+    && leb (l .is) lengthMost
+    && leb (l .ks) lengthMost
+    && leb (l .c) lengthMost
+    && leb (l .s) lengthMost
+
+-- lent bytes with an exchange laid into them: they stay as they were unless they are as many as one has, and two of them hold each length
+unfoldable pub withExchange : List ℕ → Exchange → List ℕ
+withExchange b e = cond (fitsTwo (e .lens)) (bySize b (encoded e) b) b
 
 -- the answer that the bytes give back
 unfoldable pub back : ℕ → ℕ → ℕ → List ℕ → Step

@@ -4,49 +4,54 @@ use exchange::Exchange;
 use exchange::Lengths;
 use exchange::Step;
 ghost use mathlib.Core.Path.{_≡_};
-ghost use Rattle.exchange.specs.Steps.{stepNumber};
-ghost use Rattle.stored.specs.Stored.{decoded, blank, bySize};
-ghost use Rattle.by_value.specs.ByValue.{fitTwo, fitsTwo, back};
+ghost use Rattle.exchange.specs.Steps.{stepNumber, refusedStep};
+ghost use Rattle.by_value.specs.ByValue.{fitsTwo, withExchange, back};
 
-// What two bytes hold.
-const TWO_BYTES_MOST: usize = 65535;
-
-// Whether four lengths fit two bytes each.
-fn fit_two(a: usize, b: usize, c: usize, d: usize) -> bool
-    ensures { λ r. ⌜ r ≡ fitTwo a b c d ⌝ }
-{
-    if TWO_BYTES_MOST < a {
-        return false;
-    }
-    if TWO_BYTES_MOST < b {
-        return false;
-    }
-    if TWO_BYTES_MOST < c {
-        return false;
-    }
-    d <= TWO_BYTES_MOST
-}
-
-// Whether all lengths do.
-pub fn fits_two(l: Lengths) -> bool
+// Whether two bytes hold each length. By `&` there is one way through, and so one fact to prove.
+fn fits_two(l: Lengths) -> bool
     ensures { λ r. ⌜ r ≡ fitsTwo l ⌝ }
 {
-    if fit_two(l.vc, l.vs, l.ic, l.is) {
-        return fit_two(l.ks, l.c, l.s, 0);
+    (l.vc <= limits::LENGTH_MOST)
+        & (l.vs <= limits::LENGTH_MOST)
+        & (l.ic <= limits::LENGTH_MOST)
+        & (l.is <= limits::LENGTH_MOST)
+        & (l.ks <= limits::LENGTH_MOST)
+        & (l.c <= limits::LENGTH_MOST)
+        & (l.s <= limits::LENGTH_MOST)
+}
+
+// Lays an exchange into lent bytes where its lengths fit two bytes each, and answers whether they do.
+pub fn lay(b: &mut [u8], e: Exchange) -> bool
+    ensures { λ r. ⌜ (r ≡ fitsTwo (e .lens)) × (now (b .exit) ≡ withExchange (now (b .entry)) e) ⌝ }
+{
+    let l = e.lens;
+    if !fits_two(l) {
+        return false;
     }
-    false
+    stored::store(b, e);
+    true
+}
+
+// What a step answers that is not due: 1, nothing counted, the exchange as it was.
+pub fn not_due(e: Exchange) -> Step
+    ensures { λ r. ⌜ r ≡ refusedStep 1 e ⌝ }
+{
+    Step {
+        number: 1,
+        count: 0,
+        second: 0,
+        exchange: e,
+    }
 }
 
 // A step's number on an exchange by value.
 pub fn step_number(n: u8, e: Exchange, room: usize, fed: u8) -> u8
     ensures { λ r. ⌜ r ≡ stepNumber n e room fed ⌝ }
 {
-    let l = e.lens;
-    if !fits_two(l) {
+    let mut b = [0u8; limits::EXCHANGE_SIZE];
+    if !lay(&mut b, e) {
         return 1;
     }
-    let mut b = [0u8; limits::EXCHANGE_SIZE];
-    stored::store(&mut b, e);
     due::step_number(n, &b, room, fed)
 }
 

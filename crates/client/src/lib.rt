@@ -13,17 +13,10 @@ pub fn own_c(e: Exchange, room: &mut [u8], c: &[u8], out: &mut [u8]) -> Step
         let q = ownC (now (c .entry)) (length (now (out .entry))) in
         ⌜ (r ≡ answered e (now (room .entry)) q) × (now (room .exit) ≡ roomAfter e (now (room .entry)) q) × (now (out .exit) ≡ outputAfter (number e (now (room .entry)) q) (now (out .entry)) (initBytes (now (c .entry)))) ⌝ }
 {
-    let l = e.lens;
-    if !by_value::fits_two(l) {
-        return Step {
-            number: 1,
-            count: 0,
-            second: 0,
-            exchange: e,
-        };
-    }
     let mut b = [0u8; limits::EXCHANGE_SIZE];
-    stored::store(&mut b, e);
+    if !by_value::lay(&mut b, e) {
+        return by_value::not_due(e);
+    }
     let mut count = 0u64;
     let n = lent_client::own_c(&mut b, room, c, out, &mut count);
     by_value::answer(n, count, 0, &b)
@@ -35,17 +28,10 @@ pub fn read_reply(e: Exchange, room: &mut [u8], payload: &[u8]) -> Step
         let q = reply (now (payload .entry)) in
         ⌜ (r ≡ answered e (now (room .entry)) q) × (now (room .exit) ≡ roomAfter e (now (room .entry)) q) ⌝ }
 {
-    let l = e.lens;
-    if !by_value::fits_two(l) {
-        return Step {
-            number: 1,
-            count: 0,
-            second: 0,
-            exchange: e,
-        };
-    }
     let mut b = [0u8; limits::EXCHANGE_SIZE];
-    stored::store(&mut b, e);
+    if !by_value::lay(&mut b, e) {
+        return by_value::not_due(e);
+    }
     let mut places = [0u64; 6];
     let n = lent_client::read_reply(&mut b, room, payload, &mut places);
     by_value::answer(n, 0, 0, &b)
@@ -63,17 +49,10 @@ pub fn verdict(
         let q = verdictStep signature «host_key» (length (now («k_out» .entry))) in
         ⌜ (r ≡ answered e (now (room .entry)) q) × (now (room .exit) ≡ roomAfter e (now (room .entry)) q) × (now («k_out» .exit) ≡ outputAfter (number e (now (room .entry)) q) (now («k_out» .entry)) (e .k)) ⌝ }
 {
-    let l = e.lens;
-    if !by_value::fits_two(l) {
-        return Step {
-            number: 1,
-            count: 0,
-            second: 0,
-            exchange: e,
-        };
-    }
     let mut b = [0u8; limits::EXCHANGE_SIZE];
-    stored::store(&mut b, e);
+    if !by_value::lay(&mut b, e) {
+        return by_value::not_due(e);
+    }
     let mut count = 0u64;
     let n = lent_client::verdict(&mut b, room, signature, host_key, k_out, &mut count);
     by_value::answer(n, count, 0, &b)

@@ -36,6 +36,10 @@ listCount = 10
 abbrev pub kSize : ℕ
 kSize = 71
 
+-- a length that an exchange records: what its two bytes can say
+abbrev pub lengthMost : ℕ
+lengthMost = 65535
+
 -- an exchange as it is lent at the boundary: the mark of its layout, stage, fail number, role and method, seven lengths of two bytes, K
 abbrev pub exchangeSize : ℕ
 exchangeSize = 90

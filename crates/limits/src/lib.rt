@@ -29,6 +29,9 @@ pub const LIST_COUNT: usize = 10;
 // The K record, and the least output for K.
 pub const K_SIZE: usize = 71;
 
+// A length that an exchange records: what its two bytes can say.
+pub const LENGTH_MOST: usize = 65535;
+
 // An exchange as it is lent at the boundary: the mark of its layout, stage, fail number, role and method, seven lengths of two bytes, K.
 pub const EXCHANGE_SIZE: usize = 90;
 

@@ -12,17 +12,10 @@ pub fn read_init(e: Exchange, room: &mut [u8], payload: &[u8]) -> Step
         let q = init (now (payload .entry)) in
         ⌜ (r ≡ answered e (now (room .entry)) q) × (now (room .exit) ≡ roomAfter e (now (room .entry)) q) ⌝ }
 {
-    let l = e.lens;
-    if !by_value::fits_two(l) {
-        return Step {
-            number: 1,
-            count: 0,
-            second: 0,
-            exchange: e,
-        };
-    }
     let mut b = [0u8; limits::EXCHANGE_SIZE];
-    stored::store(&mut b, e);
+    if !by_value::lay(&mut b, e) {
+        return by_value::not_due(e);
+    }
     let mut place = [0u64; 2];
     let n = lent_server::read_init(&mut b, room, payload, &mut place);
     by_value::answer(n, 0, 0, &b)
@@ -34,17 +27,10 @@ pub fn sign(e: Exchange, room: &[u8], signature: &[u8], out: &mut [u8], k_out: &
         let q = signStep (now (signature .entry)) (length (now (out .entry))) (length (now («k_out» .entry))) in
         ⌜ (r ≡ answered e (now (room .entry)) q) × (now (out .exit) ≡ outputAfter (number e (now (room .entry)) q) (now (out .entry)) (replyOf e (now (room .entry)) (now (signature .entry)))) × (now («k_out» .exit) ≡ outputAfter (number e (now (room .entry)) q) (now («k_out» .entry)) (e .k)) ⌝ }
 {
-    let l = e.lens;
-    if !by_value::fits_two(l) {
-        return Step {
-            number: 1,
-            count: 0,
-            second: 0,
-            exchange: e,
-        };
-    }
     let mut b = [0u8; limits::EXCHANGE_SIZE];
-    stored::store(&mut b, e);
+    if !by_value::lay(&mut b, e) {
+        return by_value::not_due(e);
+    }
     let mut counts = [0u64; 2];
     let n = lent_server::sign(&mut b, room, signature, out, k_out, &mut counts);
     by_value::answer(n, counts[0], counts[1], &b)

@@ -40,17 +40,10 @@ pub fn take_secret(
         let q = secretStep cl (now (x .entry)) kem (now (digest .entry)) (now (ks .entry)) (now (s .entry)) in
         ⌜ (r ≡ answered e (now (room .entry)) q) × (now (room .exit) ≡ roomAfter e (now (room .entry)) q) ⌝ }
 {
-    let l = e.lens;
-    if !by_value::fits_two(l) {
-        return Step {
-            number: 1,
-            count: 0,
-            second: 0,
-            exchange: e,
-        };
-    }
     let mut b = [0u8; limits::EXCHANGE_SIZE];
-    stored::store(&mut b, e);
+    if !by_value::lay(&mut b, e) {
+        return by_value::not_due(e);
+    }
     let mut count = 0u64;
     let n = lent_steps::take_secret(&mut b, room, cl, x, kem, digest, ks, s, &mut count);
     by_value::answer(n, count, 0, &b)

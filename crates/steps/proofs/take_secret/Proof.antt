@@ -6,31 +6,29 @@ use mathlib.Core.List.{List, []}
 use lib.ListN.{length, getD}
 use denote.Ref.{now}
 use Rattle.limits.specs.Limits.{kSize}
-use Rattle.limits.proofs.BoolLaws.{holds, fails}
 use Rattle.exchange.specs.Steps.{secret, countOf, secondOf}
 use Rattle.lent.specs.Lent.{tells}
-use Rattle.lent.proofs.AsStep.{AsStep}
-use Rattle.by_value.proofs.ValueLaws.{storable, laid-bytes, value-long, value-step, second-none}
+use Rattle.by_value.proofs.ValueLaws.{value-long, value-step, second-none}
 use Rattle.steps.proofs.take_secret.Statement.{statement}
 use Rattle.steps.proofs.take_secret.Tie as tie
 
-fits-two-requires : tie.Need-fits-two-requires
-fits-two-requires c κs = search needs
+slice-aggregate-lay : tie.Need-slice-aggregate-lay
+slice-aggregate-lay c = search needs
+
+lay-requires : tie.Need-lay-requires
+lay-requires c κs = search needs
+
+not-due-requires : tie.Need-not-due-requires
+not-due-requires c κs = search needs
 
 returns : tie.Need-returns
 returns c =
-    let a = c .before .before .before .before .before .before .before .before .args in
+    let a = c .before .before .before .before .before .before .before .before .before .before .args in
     let e = a .e in
     let r = now (a .room) in
     let q = secret (a .cl) (now (a .x)) (a .kem) (now (a .digest)) (now (a .ks)) (now (a .s)) in
-    let v = value-long e r q ([]) (fails (c .before .fits-two .ensures) (c .if1 .taken)) in
-    (v .0, v .1)
-
-slice-aggregate-store : tie.Need-slice-aggregate-store
-slice-aggregate-store c = search needs
-
-store-requires : tie.Need-store-requires
-store-requires c κs = search needs
+    let v = value-long e r q _ _ (c .before .before .before .lay .ensures) (c .before .if1 .taken) in
+    (c .not-due .ensures ∙ v .0, v .1)
 
 slice-aggregate-take-secret : tie.Need-slice-aggregate-take-secret
 slice-aggregate-take-secret c = search needs
@@ -47,26 +45,30 @@ answer-requires c κs = search needs
 same-length : tie.Need-same-length
 same-length c = search needs
 
+k-size : (c : tie.Start) → length (c .args .e .k) ≡ kSize
+k-size c = search needs
+
 returns-2 : tie.Need-returns-2
 unfolding tells countOf secondOf
 returns-2 c =
-    let a = c .before .before .before .before .before .before .before .before .before .before .before .before .before .before .before .before .before .before .before .before .args in
+    let d = c .before .before .before .before .before in
+    let t = d .before .before .before .before in
+    let s = t .before .before .before .before .before .before .before .before .before in
+    let a = s .args in
     let e = a .e in
     let r = now (a .room) in
     let q = secret (a .cl) (now (a .x)) (a .kem) (now (a .digest)) (now (a .ks)) (now (a .s)) in
-    let k : length (e .k) ≡ kSize = search (needs, c .before .before .before .before .before .before .before .before .before .before .before .before .before .before .before .before .before .before .before .before .good) in
-    let h = storable e k (holds (c .before .before .before .before .before .before .before .before .before .before .before .before .before .fits-two .ensures) (c .before .before .before .before .before .before .before .before .before .before .before .before .if1 .left)) in
-    let v = value-step e r q ([]) h _ _ _ _ _ _ (laid-bytes e k _ (c .before .before .before .before .before .before .before .before .before .before .store .ensures)) (c .before .before .before .before .before .take-secret .ensures) _ _ (λ (s : AsStep e r q ([]) _ _ _ _ _). (ap (λ (l : List ℕ). getD l 0 0) (s .told-is), second-none e r q refl)) in
+    let v = value-step e r q _ _ (t .before .before .lay .ensures) (t .if1 .left) (k-size s) [] _ _ _ _ _ (d .take-secret .ensures) _ _ (λ w. (ap (λ (l : List ℕ). getD l 0 0) (w .told-is), second-none e r q refl)) in
     (c .answer .ensures ∙ v .0, v .1)
 
 pub take-secret-spec : {M : Type 1} → statement M
 take-secret-spec =
     tie.close
     (tie.spec
-    fits-two-requires
+    slice-aggregate-lay
+    lay-requires
+    not-due-requires
     returns
-    slice-aggregate-store
-    store-requires
     slice-aggregate-take-secret
     take-secret-requires
     slice-aggregate-answer
