@@ -32,15 +32,18 @@ while [ -n "$todo" ]; do
     todo=$(echo $next)
 done
 
-proof=$({
-    rt version
-    for crate in $reached; do
-        echo "$crate: $(line "$crate")"
-        for part in src specs proofs; do
-            [ ! -d "crates/$crate/$part" ] || find "crates/$crate/$part" -type f
-        done | sort | xargs sha256sum
-    done
-} | sha256sum)
+sum_of_sources() {
+    {
+        rt version
+        for crate in $reached; do
+            echo "$crate: $(line "$crate")"
+            for part in src specs proofs; do
+                [ ! -d "crates/$crate/$part" ] || find "crates/$crate/$part" -type f
+            done | sort | xargs sha256sum
+        done
+    } | sha256sum
+}
+proof=$(sum_of_sources)
 
 file_of() { # TARGET VARIANT
     case $1 in x86-64) folder=build ;; *) folder=build/$1 ;; esac
@@ -98,6 +101,7 @@ if [ ! -d build/checked ] || [ "$(cat build/checked.key 2>/dev/null)" != "$proof
     echo "lib: the library is proved before it is built (some three minutes from nothing)"
     prove >$log 2>&1 || { tail -n 40 $log; echo "lib: not proved, see $log"; exit 1; }
     refuse_foreign
+    [ "$(sum_of_sources)" = "$proof" ] || { echo "lib: a source changed while it was proved: run it again"; exit 1; }
     echo "$proof" >build/checked.key
 else
     # what was proved below may have been removed, or be of other sources, since

@@ -55,6 +55,11 @@ class Machine:
         said = subprocess.run([self.tools + 'nm', '-u', self.folder / VARIANTS[variant]], capture_output=True, text=True, check=True).stdout
         return sorted(set(re.findall(r'^\s+U (\S+)$', said, re.M)))
 
+    def compiled_for(self, variant):
+        """What an archive for ARM says of the processor: its profile, and whether it has the long instructions of ARM."""
+        said = subprocess.run([self.tools + 'readelf', '-A', self.folder / VARIANTS[variant]], capture_output=True, text=True, check=True).stdout
+        return dict(re.findall(r'^  Tag_(\w+): (.*)$', said, re.M))
+
 
 MACHINES = {m.name: m for m in (
     Machine('x86-64', 'build'),

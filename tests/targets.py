@@ -51,6 +51,11 @@ def tried(machine, variant, script, answers, folders):
     called = machine.calls(variant)
     if not CALLED.issuperset(called):
         raise Wrong(f'it calls {called}')
+    # what runs below is a copy without these words: so that it is a microcontroller's code is held here
+    if machine.bare:
+        of = machine.compiled_for(variant)
+        if (of.get('CPU_arch_profile'), of.get('ARM_ISA_use')) != ('Microcontroller', 'No'):
+            raise Wrong(f'it is compiled for {of}')
     said('the header test', machine.program(archive, folder / 'header', HEADER))
     for level in ('-O0', '-O2'):
         said(f'the stack test {level}', machine.program(archive, folder / 'stack', ['tests/stack_test.c'], level))
