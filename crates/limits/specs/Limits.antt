@@ -36,6 +36,24 @@ listCount = 10
 abbrev pub kSize : ℕ
 kSize = 71
 
+-- what one hash may be fed in all; a block at its longest, and so what can wait for one; H, and a digest, zeros after it
+abbrev pub hashMost : ℕ
+hashMost = 65536
+
+abbrev pub blockMost : ℕ
+blockMost = 128
+
+abbrev pub hSize : ℕ
+hSize = 64
+
+-- what a KEM gives, K_PQ
+abbrev pub kPqSize : ℕ
+kPqSize = 32
+
+-- a hash as it is lent at the boundary: its kind, two counts of eight bytes, the hash value, what waits for a block
+abbrev pub hashSize : ℕ
+hashSize = 209
+
 -- a length that an exchange records: what its two bytes can say
 abbrev pub lengthMost : ℕ
 lengthMost = 65535

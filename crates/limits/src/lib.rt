@@ -29,6 +29,19 @@ pub const LIST_COUNT: usize = 10;
 // The K record, and the least output for K.
 pub const K_SIZE: usize = 71;
 
+// What one hash may be fed in all; a block at its longest, and so what can wait for one; H, and a digest, zeros after it.
+pub const HASH_MOST: usize = 65536;
+
+pub const BLOCK_MOST: usize = 128;
+
+pub const H_SIZE: usize = 64;
+
+// What a KEM gives, K_PQ.
+pub const K_PQ_SIZE: usize = 32;
+
+// A hash as it is lent at the boundary: its kind, two counts of eight bytes, the hash value, what waits for a block.
+pub const HASH_SIZE: usize = 209;
+
 // A length that an exchange records: what its two bytes can say.
 pub const LENGTH_MOST: usize = 65535;
 
