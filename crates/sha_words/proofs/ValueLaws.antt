@@ -93,9 +93,19 @@ words-read n (x ∷ ws) a b h =
 -- sums are words
 sums-below : (p : Width) (H : List ℕ) (v : Working) → Sizes p → Below (256 ^ p .bytes) (sums (p .w) H v)
 sums-below p H v sizes =
-    let less : (x : ℕ) → x % 2 ^ p .w < 256 ^ p .bytes = λ x. subst (λ (n : ℕ). x % 2 ^ p .w < n) (sizes .power) (mod-lt x (pow-pos (p .w))) in
-    (less (v .a + getD H 0 0), (less (v .b + getD H 1 0), (less (v .c + getD H 2 0), (less (v .d + getD H 3 0),
-    (less (v .e + getD H 4 0), (less (v .f + getD H 5 0), (less (v .g + getD H 6 0), (less (v .h + getD H 7 0), tt))))))))
+    let less : (x : ℕ) → x % 2 ^ p .w < 256 ^ p .bytes = λ x. subst (λ (n : ℕ). x % 2 ^ p .w < n) (sizes .power) (mod-lt x (pow-pos (p .w))) in (
+      less (v .a + getD H 0 0),
+      (
+        less (v .b + getD H 1 0),
+        (
+          less (v .c + getD H 2 0),
+          (
+            less (v .d + getD H 3 0),
+            (less (v .e + getD H 4 0), (less (v .f + getD H 5 0), (less (v .g + getD H 6 0), (less (v .h + getD H 7 0), tt)))),
+          ),
+        ),
+      ),
+    )
 
 -- the words of a hash value that blocks made
 read-hash : (p : Width) (H m : List ℕ) (n : ℕ) → Sizes p → 1 ≤ n
