@@ -1,13 +1,12 @@
 -- `sha_256::value_of` meets its contract. Assumes nothing.
 use Prim.Native.Nat.{ℕ, _≤_, _-_, _*_}
-use mathlib.Core.Path.{_≡_, refl, sym, ap, _∙_}
+use mathlib.Core.Path.{_≡_, refl, ap, _∙_}
 use mathlib.Core.List.{List}
 use native.Mathlib.Omega.{arith}
 use borrow.Author.Needs.{needs}
 use lib.ListN.{length, take}
 use lib.Seq.{take-all}
 use Rattle.limits.specs.Limits.{hSize}
-use Rattle.sha_words.specs.Constants.{bits32}
 use Rattle.sha_words.specs.Message.{sized, wordBytes, valueOf}
 use Rattle.sha_words.proofs.ValueLaws.{word-laid}
 use Rattle.sha_256.proofs.value_of.Statement.{statement}
