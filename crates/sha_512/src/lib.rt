@@ -131,71 +131,20 @@ fn small_sigma1(x: u64) -> u64
 
 // ---- words and bytes
 
-fn join(b0: u8, b1: u8, b2: u8, b3: u8, b4: u8, b5: u8, b6: u8, b7: u8) -> u64
-    ensures { λ r. ⌜ r ≡ ((((((b0 * 256 + b1) * 256 + b2) * 256 + b3) * 256 + b4) * 256 + b5) * 256 + b6) * 256 + b7 ⌝ }
-{
-    (b0 as u64) * 0x100000000000000
-        + (b1 as u64) * 0x1000000000000
-        + (b2 as u64) * 0x10000000000
-        + (b3 as u64) * 0x100000000
-        + (b4 as u64) * 0x1000000
-        + (b5 as u64) * 0x10000
-        + (b6 as u64) * 0x100
-        + (b7 as u64)
-}
-
-fn word(b: &[u8], at: usize) -> u64
-    requires { ⌜ at + 8 ≤ length (now b) ⌝ }
-    ensures { λ r. ⌜ r ≡ numberAt (now (b .entry)) at 8 ⌝ }
-{
-    join(
-        b[at],
-        b[at + 1],
-        b[at + 2],
-        b[at + 3],
-        b[at + 4],
-        b[at + 5],
-        b[at + 6],
-        b[at + 7],
-    )
-}
-
-fn bytes_of(w: u64) -> [u8; 8]
-    ensures { λ r. ⌜ r ≡ bytesOf 8 w ⌝ }
-{
-    let w1 = w / 256;
-    let w2 = w1 / 256;
-    let w3 = w2 / 256;
-    let w4 = w3 / 256;
-    let w5 = w4 / 256;
-    let w6 = w5 / 256;
-    let w7 = w6 / 256;
-    [
-        (w7 % 256) as u8,
-        (w6 % 256) as u8,
-        (w5 % 256) as u8,
-        (w4 % 256) as u8,
-        (w3 % 256) as u8,
-        (w2 % 256) as u8,
-        (w1 % 256) as u8,
-        (w % 256) as u8,
-    ]
-}
-
 // A hash value's eight words.
 fn words_in(v: &[u8]) -> [u64; 8]
     requires { ⌜ 64 ≤ length (now v) ⌝ }
     ensures { λ r. ⌜ r ≡ wordsAt (now (v .entry)) 0 8 8 ⌝ }
 {
     [
-        word(v, 0),
-        word(v, 8),
-        word(v, 16),
-        word(v, 24),
-        word(v, 32),
-        word(v, 40),
-        word(v, 48),
-        word(v, 56),
+        numbers::number(v, 0),
+        numbers::number(v, 8),
+        numbers::number(v, 16),
+        numbers::number(v, 24),
+        numbers::number(v, 32),
+        numbers::number(v, 40),
+        numbers::number(v, 48),
+        numbers::number(v, 56),
     ]
 }
 
@@ -206,7 +155,7 @@ fn value_of(words: [u64; 8]) -> [u8; limits::H_SIZE]
     let mut out = [0u8; limits::H_SIZE];
     let mut i = 0;
     while i < 8 {
-        let b = bytes_of(words[i]);
+        let b = numbers::bytes_of(words[i]);
         let at = 8 * i;
         buffers::put_bytes(&mut out, at, &b);
         i += 1;
@@ -232,7 +181,7 @@ fn schedule(b: &[u8]) -> [u64; 80]
 {
     let mut m = [0u64; 80];
     for i in 0..16 {
-        m[i] = word(b, 8 * i);
+        m[i] = numbers::number(b, 8 * i);
     }
     for t in 16..80 {
         m[t] = mix(m[t - 2], m[t - 7], m[t - 15], m[t - 16]);
