@@ -19,12 +19,12 @@ use Rattle.sha_words.proofs.SizedLaws.{length-sized, take-sized}
 use Rattle.sha_words.proofs.ChainLaws.{length-behind}
 use Rattle.sha_words.proofs.PaddingLaws.{Sizes, sizes-of}
 use Rattle.sha_words.proofs.ValueLaws.{length-wordBytes, valueAfter-short, valueAfter-whole, valueAfter-parts}
-use Rattle.sha_words.proofs.DigestLaws.{length-after, padded-least, kind-most}
+use Rattle.sha_words.proofs.DigestLaws.{length-after, padded-least, kind-most, length-valueOf, length-valueAfter}
 use Rattle.sha2.specs.declared.Hash.{Hash}
 use Rattle.sha2.specs.declared.Fed.{Fed}
 use Rattle.sha2.specs.declared.Digest.{Digest}
 use Rattle.sha2.specs.Hash.{fresh, blank, started, fits, grown, waiting, taken, fed, lastValue, finished, digested, fedAll, allOf}
-use Rattle.sha2.proofs.StateLaws.{fed-unfit, fed-taken, finished-unfit, finished-fit}
+use Rattle.sha2.proofs.StateLaws.{fitting, fed-unfit, fed-taken, finished-unfit, finished-fit}
 use Rattle.sha2.proofs.PartLaws.{taken-taken, taken-fits, taken-total}
 
 -- ---- a fresh state
@@ -125,7 +125,7 @@ finished-whole kind m h l =
 
 -- ---- any list of parts
 
-taken-tail : (s : Hash) (a : List ℕ) → length (s .tail) ≡ blockMost → fits s ≡ true → length (taken s a .tail) ≡ blockMost
+pub taken-tail : (s : Hash) (a : List ℕ) → length (s .tail) ≡ blockMost → fits s ≡ true → length (taken s a .tail) ≡ blockMost
 unfolding grown
 taken-tail s [] l h = l
 taken-tail s (x ∷ a) l h =
@@ -133,6 +133,28 @@ taken-tail s (x ∷ a) l h =
     let m : List ℕ = waiting s (x ∷ a) in
     let b : length (behind p m) < p .block = rw (length-behind p m) (mod-lt (length m) (sizes-of (s .kind) .positive)) in
     length-sized blockMost (behind p m) (omega (arith, sizes-of (s .kind) .most))
+
+pub taken-held : (s : Hash) (a : List ℕ) → fits s ≡ true → taken s a .held < blockMost
+unfolding grown
+taken-held s [] h = fitting s h .most
+taken-held s (x ∷ a) h =
+    let p : Width = widthOf (s .kind) in
+    let m : List ℕ = waiting s (x ∷ a) in
+    omega (arith, length-behind p m, mod-lt (length m) (sizes-of (s .kind) .positive), sizes-of (s .kind) .most)
+
+pub taken-value : (s : Hash) (a : List ℕ) → length (s .value) ≡ hSize → length (taken s a .value) ≡ hSize
+unfolding grown
+taken-value s [] l = l
+taken-value s (x ∷ a) l = length-valueAfter (widthOf (s .kind)) (s .value) (waiting s (x ∷ a)) (sizes-of (s .kind)) l
+
+pub fresh-value : (kind : ℕ) → length (valueOf (widthOf kind) (initial kind)) ≡ hSize
+unfolding H256 H384 H512
+fresh-value kind = length-valueOf (widthOf kind) (initial kind) (sizes-of kind) (by-kind (eqb kind 32) (eqb kind 48))
+  where
+    by-kind : (t u : Bool) → length (cond t H256 (cond u H384 H512)) ≡ 8
+    by-kind true u = refl
+    by-kind false true = refl
+    by-kind false false = refl
 
 fedAll-taken : (s : Hash) (parts : List (List ℕ)) → length (s .tail) ≡ blockMost → fits s ≡ true → s .total + length (allOf parts) ≤ hashMost
     → fedAll s parts ≡ taken s (allOf parts)

@@ -9,12 +9,14 @@ use native.Mathlib.Omega.{arith}
 use native.Mathlib.Nat.{mod-eq-of-lt, one-mul, le-div-iff-mul-le}
 use lib.ListN.{length, length-append}
 use lib.Seq.{length-take-le}
+use Rattle.limits.specs.Limits.{hSize}
 use Rattle.sha_words.specs.Words.{Width}
 use Rattle.sha_words.specs.Constants.{bits32, bits64, known, widthOf, initial}
 use Rattle.sha_words.specs.Blocks.{next, hashAfter, after}
-use Rattle.sha_words.specs.Message.{wordBytes, padding, padded, sha2}
-use Rattle.sha_words.proofs.PaddingLaws.{sizes-of, padded-whole}
-use Rattle.sha_words.proofs.ValueLaws.{length-wordBytes}
+use Rattle.sha_words.specs.Message.{wordsAt, valueOf, valueAfter, wordBytes, padding, padded, sha2}
+use Rattle.sha_words.proofs.SizedLaws.{length-sized}
+use Rattle.sha_words.proofs.PaddingLaws.{Sizes, sizes-of, padded-whole}
+use Rattle.sha_words.proofs.ValueLaws.{length-wordBytes, valueAfter-short, valueAfter-whole}
 
 -- ---- eight words
 
@@ -44,6 +46,23 @@ padded-least p m pos = by-test (ltb (length (padded p m)) (p .block)) refl
         let z : length (padded p m) % p .block ≡ length (padded p m) = mod-eq-of-lt l in
         absurd (omega (arith, padded-whole p m pos, z, some))
     by-test false e = ltb-false _ _ e
+
+-- ---- values
+
+pub length-valueOf : (p : Width) (H : List ℕ) → Sizes p → length H ≡ 8 → length (valueOf p H) ≡ hSize
+unfolding valueOf
+length-valueOf p H sizes h =
+    let l : length (wordBytes (p .bytes) H) ≡ p .bytes * 8 = length-wordBytes (p .bytes) H ∙ ap (λ (n : ℕ). p .bytes * n) h in
+    length-sized hSize (wordBytes (p .bytes) H) (omega (arith, l, sizes .eight))
+
+pub length-valueAfter : (p : Width) (v m : List ℕ) → Sizes p → length v ≡ hSize → length (valueAfter p v m) ≡ hSize
+length-valueAfter p v m sizes h = by-test (ltb (length m) (p .block)) refl
+  where
+    by-test : (t : Bool) → ltb (length m) (p .block) ≡ t → length (valueAfter p v m) ≡ hSize
+    by-test true e = ap length (valueAfter-short p v m (ltb-true _ _ e)) ∙ h
+    by-test false e =
+        let l : p .block ≤ length m = ltb-false _ _ e in
+        ap length (valueAfter-whole p v m l) ∙ length-valueOf p (after p (wordsAt v 0 (p .bytes) 8) m) sizes (length-after p (wordsAt v 0 (p .bytes) 8) m (sizes .positive) l)
 
 -- ---- the digest
 

@@ -1,0 +1,131 @@
+-- Feeding in parts where the host stands: an empty part changes no byte, and what is fed in any list of parts and finished is the digest of the
+-- whole. Assumes nothing.
+use Prim.Native.Nat.{ℕ, _+_, _≤_}
+use mathlib.Core.Path.{_≡_, refl, sym, ap, _∙_}
+use mathlib.Core.List.{List, [], _∷_, _++_}
+use mathlib.Core.Bool.{Bool, true, false, cond, _&&_, and-eq-true-iff}
+use native.Mathlib.Omega.{arith}
+use lib.Dec.{leb, eqb}
+use lib.ListN.{length, length-append}
+use borrow.Author.Tests.{leb-true, eqb-true}
+use Rattle.limits.specs.Limits.{hashMost, hSize, hashSize}
+use Rattle.buffers.specs.Bytes.{Bytes}
+use Rattle.sha_words.specs.Constants.{known}
+use Rattle.sha_words.specs.Message.{bytesOf, sha2, sized}
+use Rattle.sha_words.proofs.PaddingLaws.{length-bytesOf}
+use Rattle.sha2.specs.declared.Hash.{Hash}
+use Rattle.sha2.specs.declared.Fed.{Fed}
+use Rattle.sha2.specs.declared.Digest.{Digest}
+use Rattle.sha2.specs.Hash.{fresh, blank, started, fits, taken, fed, finished, fedAll, allOf}
+use Rattle.sha2.proofs.PartLaws.{fed-empty, taken-total}
+use Rattle.sha2.proofs.WholeLaws.{taken-tail, taken-value, taken-held, fresh-value, fed-parts}
+use Rattle.lent_hash.specs.LentHash.{stateBytes, stateIn, HashLeft, hashLeft, startLeft, feedLeft, finishLeft, feedAllLeft}
+use Rattle.lent_hash.proofs.LentHashLaws.{size-taken, Typed, state-back, bytes-back}
+
+-- ---- an empty part
+
+pub empty-stays : (b : List ℕ) → Bytes b → feedLeft b [] .bytes ≡ b
+unfolding feedLeft
+empty-stays b g = by-size (eqb (length b) hashSize) refl
+  where
+    by-number : (t : Bool) → length b ≡ hashSize → cond t (stateBytes (fed (stateIn b) [] .hash)) b ≡ b
+    by-number true h = ap stateBytes (fed-empty (stateIn b)) ∙ bytes-back b g h
+    by-number false h = refl
+
+    by-size : (t : Bool) → eqb (length b) hashSize ≡ t
+        → cond {A = HashLeft} t
+        (hashLeft (fed (stateIn b) [] .number) (cond (eqb (fed (stateIn b) [] .number) 0) (stateBytes (fed (stateIn b) [] .hash)) b))
+        (hashLeft 4 b) .bytes ≡ b
+    by-size true e = by-number (eqb (fed (stateIn b) [] .number) 0) (eqb-true (length b) hashSize e)
+    by-size false e = refl
+
+-- ---- the bytes of a state
+
+length-state : (s : Hash) → Typed s → length (stateBytes s) ≡ hashSize
+unfolding stateBytes
+length-state s h =
+    let a : List ℕ = s .kind ∷ [] in
+    let t : List ℕ = bytesOf 8 (s .total) in
+    let l : List ℕ = bytesOf 8 (s .held) in
+    omega (
+      arith,
+      length-append a t,
+      length-append (a ++ t) l,
+      length-append (a ++ t ++ l) (s .value),
+      length-append (a ++ t ++ l ++ s .value) (s .tail),
+      length-bytesOf 8 (s .total),
+      length-bytesOf 8 (s .held),
+      h .value,
+      h .tail,
+    )
+
+-- what is fed to them, and to what they hold
+lent-fed : (s : Hash) (part : List ℕ) → Typed s → feedLeft (stateBytes s) part .bytes ≡ stateBytes (fed s part .hash)
+unfolding feedLeft fed
+lent-fed s part h =
+    ap (λ (f : HashLeft). f .bytes) (sym (size-taken (stateBytes s) _ _ (length-state s h)))
+    ∙ ap (λ (x : Hash). cond (eqb (fed x part .number) 0) (stateBytes (fed x part .hash)) (stateBytes s)) (state-back s h)
+    ∙ by-test (fits s && leb (s .total + length part) hashMost)
+  where
+    by-test : (t : Bool)
+        → cond (eqb (cond {A = Fed} t (record { number = 0; hash = taken s part }) (record { number = 4; hash = s }) .number) 0)
+        (stateBytes (cond {A = Fed} t (record { number = 0; hash = taken s part }) (record { number = 4; hash = s }) .hash)) (stateBytes s)
+        ≡ stateBytes (cond {A = Fed} t (record { number = 0; hash = taken s part }) (record { number = 4; hash = s }) .hash)
+    by-test true = refl
+    by-test false = refl
+
+-- ---- every state that the calls make goes into bytes and comes back
+
+fed-typed : (s : Hash) (part : List ℕ) → Typed s → Typed (fed s part .hash)
+unfolding fed
+fed-typed s part h = by-test (fits s && leb (s .total + length part) hashMost) refl
+  where
+    by-test : (t : Bool) → (fits s && leb (s .total + length part) hashMost) ≡ t
+        → Typed (cond {A = Fed} t (record { number = 0; hash = taken s part }) (record { number = 4; hash = s }) .hash)
+    by-test true e =
+        let w = and-eq-true-iff (fits s) (leb (s .total + length part) hashMost) .0 e in
+        let n : s .total + length part ≤ hashMost = leb-true _ _ (w .1) in
+        record {
+          total = omega (arith, taken-total s part, n);
+          held = omega (arith, taken-held s part (w .0));
+          value = taken-value s part (h .value);
+          tail = taken-tail s part (h .tail) (w .0);
+        }
+    by-test false e = h
+
+fresh-typed : (kind : ℕ) → Typed (fresh kind)
+unfolding fresh
+fresh-typed kind = record { total = omega arith; held = omega arith; value = fresh-value kind; tail = refl }
+
+started-typed : (kind : ℕ) → Typed (started kind .hash)
+unfolding started blank
+started-typed kind = by-test (known kind)
+  where
+    by-test : (t : Bool) → Typed (cond {A = Fed} t (record { number = 0; hash = fresh kind }) (record { number = 4; hash = blank }) .hash)
+    by-test true = fresh-typed kind
+    by-test false = record { total = omega arith; held = omega arith; value = refl; tail = refl }
+
+-- ---- any list of parts
+
+lent-all : (s : Hash) (parts : List (List ℕ)) → Typed s → feedAllLeft (stateBytes s) parts ≡ stateBytes (fedAll s parts)
+lent-all s [] h = refl
+lent-all s (part ∷ parts) h =
+    ap (λ (b : List ℕ). feedAllLeft b parts) (lent-fed s part h) ∙ lent-all (fed s part .hash) parts (fed-typed s part h)
+
+all-typed : (s : Hash) (parts : List (List ℕ)) → Typed s → Typed (fedAll s parts)
+all-typed s [] h = h
+all-typed s (part ∷ parts) h = all-typed (fed s part .hash) parts (fed-typed s part h)
+
+-- a message fed in any list of parts to a hash that was started in lent bytes, and finished, is the digest of the whole
+pub lent-parts : (b : List ℕ) (kind : ℕ) (parts : List (List ℕ)) → length b ≡ hashSize → known kind ≡ true → length (allOf parts) ≤ hashMost
+    → finishLeft (feedAllLeft (startLeft b kind .bytes) parts) ≡ hashLeft 0 (sized hSize (sha2 kind (allOf parts)))
+unfolding startLeft finishLeft
+lent-parts b kind parts l h m =
+    let s : Hash = started kind .hash in
+    let f : Hash = fedAll s parts in
+    let t : Typed f = all-typed s parts (started-typed kind) in
+    ap (λ (x : HashLeft). finishLeft (feedAllLeft (x .bytes) parts)) (sym (size-taken b _ _ l))
+    ∙ ap finishLeft (lent-all s parts (started-typed kind))
+    ∙ sym (size-taken (stateBytes f) _ _ (length-state f t))
+    ∙ ap (λ (x : Hash). hashLeft (finished x .number) (finished x .bytes)) (state-back f t)
+    ∙ ap (λ (d : Digest). hashLeft (d .number) (d .bytes)) (fed-parts kind parts h m)

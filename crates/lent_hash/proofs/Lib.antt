@@ -1,0 +1,2 @@
+pub mod LentHashLaws
+pub mod LentPartLaws
