@@ -108,7 +108,7 @@ rust-test: rust-host
 # A script of calls, and plain Rust's answers.
 script: rust-host
 	@mkdir -p build/host
-	$(RUST)/script $(SEED) 3000 2000 > build/host/script
+	$(RUST)/script $(SEED) 3000 2000 2000 > build/host/script
 	$(RUST)/plain_bench < build/host/script > build/host/answers
 
 bench-test: c-host script
@@ -120,7 +120,7 @@ bench-test: c-host script
 
 differ-test: rust-host
 	$(RUST)/differ --seed $(SEED)
-	$(RUST_SMALL)/differ --seed $(SEED) --lists 100000 --rounds 30000
+	$(RUST_SMALL)/differ --seed $(SEED) --lists 100000 --rounds 30000 --hashes 30000
 
 live-test: c-host
 	python3 tests/live/live.py --dock build/dock --dock-asan build/host/dock_san
@@ -133,8 +133,8 @@ targets: cross script
 # Longer runs: exchanges with a real sshd, and the library against the plain implementation, with another seed each time.
 soak: host
 	python3 tests/live/soak.py --dock build/dock --count 2000
-	$(RUST)/differ --seed $$(date +%s) --lists 20000000 --rounds 4000000 --progress
-	$(RUST_SMALL)/differ --seed $$(date +%s) --lists 2000000 --rounds 400000 --progress
+	$(RUST)/differ --seed $$(date +%s) --lists 20000000 --rounds 4000000 --hashes 4000000 --progress
+	$(RUST_SMALL)/differ --seed $$(date +%s) --lists 2000000 --rounds 400000 --hashes 400000 --progress
 
 # docs/MEASUREMENTS.md has what this printed. Archives for other machines count where they were made.
 measure: rust-host

@@ -13,7 +13,7 @@
 static uint8_t stack[STACK] __attribute__((aligned(4096)));
 static uint8_t room[CASTULFRISA_ROOM], kexinit[CASTULFRISA_KEXINIT_MOST], version[CASTULFRISA_V_MOST], list[3999];
 static uint8_t init[CASTULFRISA_INIT], reply[CASTULFRISA_REPLY], k[CASTULFRISA_K];
-static uint8_t value[CASTULFRISA_VALUE_MOST], x[48], digest[48], ks[CASTULFRISA_BLOB_MOST], signature[CASTULFRISA_BLOB_MOST];
+static uint8_t value[CASTULFRISA_VALUE_MOST], x[48], k_pq[CASTULFRISA_K_PQ_SIZE], h[CASTULFRISA_H_SIZE], ks[CASTULFRISA_BLOB_MOST], signature[CASTULFRISA_BLOB_MOST];
 static uint8_t exchange[CASTULFRISA_EXCHANGE];
 static uint64_t init_len, reply_len, number; /* the last call's number */
 
@@ -51,8 +51,8 @@ static void start(uint64_t role)
 static void take_secret(void)
 {
     uint64_t count;
-    number = castulfrisa_take_secret(EXCHANGE, 1, sizeof x, x, sizeof x, CASTULFRISA_KEM_DONE, digest, sizeof digest, ks, sizeof ks,
-                                     value, sizeof value, &count);
+    number = castulfrisa_take_secret(EXCHANGE, 1, sizeof x, x, sizeof x, CASTULFRISA_KEM_DONE, k_pq, sizeof k_pq, ks, sizeof ks, value,
+                                     sizeof value, &count, h);
 }
 
 static void wipe(void)
@@ -174,6 +174,7 @@ int main(void)
 #endif
     tell("wipe", wipe, base);
     printf("deepest %zu\n", deepest);
-    printf("sizes %d %d %d %d %d\n", CASTULFRISA_ROOM, CASTULFRISA_EXCHANGE, CASTULFRISA_K, CASTULFRISA_INIT, CASTULFRISA_REPLY);
+    printf("sizes %d %d %d %d %d %d\n", CASTULFRISA_ROOM, CASTULFRISA_EXCHANGE, CASTULFRISA_K, CASTULFRISA_H_SIZE, CASTULFRISA_INIT,
+           CASTULFRISA_REPLY);
     return refused || deepest >= CASTULFRISA_STACK;
 }
