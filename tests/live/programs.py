@@ -13,6 +13,7 @@ import time
 METHODS = {
     1: "curve25519-sha256", 2: "curve25519-sha256@libssh.org", 3: "curve448-sha512",
     4: "ecdh-sha2-nistp256", 5: "ecdh-sha2-nistp384", 6: "ecdh-sha2-nistp521",
+    7: "mlkem768nistp256-sha256", 8: "mlkem1024nistp384-sha384", 9: "mlkem768x25519-sha256",
 }
 # host key name: file of the key, and how ssh-keygen makes it
 HOST_KEYS = {
