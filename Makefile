@@ -1,6 +1,6 @@
 # Two commands for a newcomer: `make demo` runs what there is, `make test` is the gate. `make lib` leaves the static library in build/.
 .PHONY: demo test vectors needs cross lib bench dock c-host rust-host host host-test c-test rust-test script bench-test differ-test live-test same \
-	targets soak measure
+	hybrids targets soak measure
 
 WARN = -Wall -Wextra -Werror -pedantic -O2 -Iinclude
 CARGO = cargo --offline --quiet
@@ -124,6 +124,20 @@ differ-test: rust-host
 
 live-test: c-host
 	python3 tests/live/live.py --dock build/dock --dock-asan build/host/dock_san
+
+# Methods 7 to 9 live, on demand: Debian 12's libcrypto has no ML-KEM, so trixie's is fetched from Debian's archive, with its OpenSSH and PuTTY, and libssh
+# of forky, and unpacked into build/; nothing is installed. What is made with their libraries runs with their C library too.
+HYBRIDS = build/hybrids
+MULTIARCH = $(shell gcc -print-multiarch)
+NEWER = -Wl,--allow-shlib-undefined
+hybrids: lib needs
+	@sh tests/suite.sh trixie $(HYBRIDS)/trixie openssh-server openssh-client putty-tools libssl-dev
+	@sh tests/suite.sh forky $(HYBRIDS)/forky libssh-dev
+	gcc -std=c11 $(WARN) -isystem $(HYBRIDS)/trixie/usr/include -isystem $(HYBRIDS)/trixie/usr/include/$(MULTIARCH) host/dock/*.c $(LIB) \
+		$(HYBRIDS)/trixie/usr/lib/$(MULTIARCH)/libcrypto.so $(NEWER) -o $(HYBRIDS)/dock
+	gcc -std=c11 $(WARN) -idirafter $(HYBRIDS)/forky/usr/include tests/live/libssh_peer.c $(HYBRIDS)/forky/usr/lib/$(MULTIARCH)/libssh.so $(NEWER) \
+		-o $(HYBRIDS)/libssh_peer
+	python3 tests/live/hybrids.py --dock $(HYBRIDS)/dock --suite $(HYBRIDS)/trixie --libssh $(HYBRIDS)/forky --peer $(HYBRIDS)/libssh_peer
 
 # The library for other machines, under qemu: header, stack, the script, document 01's examples and the captures, and what it costs there.
 targets: cross script

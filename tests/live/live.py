@@ -267,13 +267,13 @@ def guesses(programs, dock):
 
 # ---- all
 
-def part(name, work, *arguments):
+def part(name, work, *arguments, of="live"):
     began = time.monotonic()
     try:
         said = work(*arguments)
     except (Failure, OSError, subprocess.SubprocessError) as e:
         raise Failure(f"{name}: {e}") from None
-    print(f"live: {name}: {said} ({time.monotonic() - began:.1f} s)", flush=True)
+    print(f"{of}: {name}: {said} ({time.monotonic() - began:.1f} s)", flush=True)
 
 
 def main():
