@@ -15,7 +15,7 @@ mkdir -p "$work/lists/partial" "$work/cache/archives/partial"
 : >"$work/log"
 
 fail() {
-    echo "suite: no $* of $suite: $(tail -n 1 "$work/log" | sed 's|[a-z]*://[^ ]*||')" >&2
+    echo "suite: $*: $(tail -n 1 "$work/log" | sed 's|[a-z]*://[^ ]*||')" >&2
     rm -rf "$folder"
     exit 1
 }
@@ -23,7 +23,7 @@ fail() {
 . /etc/os-release
 own=$(apt-get indextargets --format '$(REPO_URI) $(RELEASE) $(COMPONENT) $(ORIGIN)' 'Created-By: Packages' 2>>"$work/log" |
     awk -v own="$VERSION_CODENAME" '$2 == own && $3 == "main" && $4 == "Debian" { print $1; exit }')
-[ -n "$own" ] || fail archive
+[ -n "$own" ] || fail "this machine knows no archive of Debian"
 echo "deb [signed-by=/usr/share/keyrings/debian-archive-keyring.gpg] $own $suite main" >"$work/sources.list"
 
 get() {
@@ -31,10 +31,10 @@ get() {
         -o Dir::State::status="$work/status" -o Dir::Cache="$work/cache" -o APT::Sandbox::User=root -o APT::Install-Recommends=false "$@" >>"$work/log" 2>&1
 }
 # where a list fails, apt-get update warns and goes on
-get update -o APT::Update::Error-Mode=any || fail lists
-get install -y --download-only -o Debug::NoLocking=1 "$@" || fail packages
+get update -o APT::Update::Error-Mode=any || fail "Debian's archive cannot be reached, or has no $suite"
+get install -y --download-only -o Debug::NoLocking=1 "$@" || fail "$suite has not all of $*"
 for package in "$work"/cache/archives/*.deb; do
-    dpkg-deb -x "$package" "$folder" 2>>"$work/log" || fail packages
+    dpkg-deb -x "$package" "$folder" 2>>"$work/log" || fail "cannot be unpacked"
 done
 rm -rf "$work"
 echo "$*" >"$folder/packages"
