@@ -149,6 +149,11 @@ def hashes():
             yield f'shaset total {total}', f'0 {state(total, tail=0)}'
             yield 'finish', f'4 {ZEROS}'
             yield 'feed -', f'4 {state(total, tail=0)}'
+        yield 'shaset total 65537', f'0 {state(65537, tail=0)}'
+        yield 'shaset tail 1', f'0 {state(65537)}'
+        yield 'finish', f'4 {ZEROS}'
+        yield 'feed -', f'4 {state(65537)}'
+        yield 'shaset tail 0', f'0 {state(65537, tail=0)}'
         yield 'shaset total 65536', f'0 {state(65536)}'
         for tail in (1, block - 1, block, 2**32, 2**64 - 1):
             yield f'shaset tail {tail}', f'0 {state(65536, tail=tail)}'
