@@ -38,8 +38,9 @@
 
    A HASH
    - It is a buffer of CASTULFRISA_HASH_SIZE bytes, the caller's, which only the library reads and writes: castulfrisa_hash_start makes it,
-     castulfrisa_hash_feed changes it in place. A copy is a hash of its own. It holds bytes of what it was fed: castulfrisa_wipe it where
-     they are secret. An exchange needs none: castulfrisa_take_secret hands out H. */
+     castulfrisa_hash_feed changes it in place. A copy is a hash of its own. Its kind and the two lengths in it are judged at every call; a
+     buffer where they do not fit, or of another length, is answered 4 and stays. It holds bytes of what it was fed: castulfrisa_wipe it
+     where they are secret. An exchange needs none: castulfrisa_take_secret hands out H. */
 #ifndef CASTULFRISA_H
 #define CASTULFRISA_H
 
@@ -97,8 +98,8 @@ extern "C" {
    1 to 5 and 19 to 22: nothing changes, neither exchange, room, hash nor output; but a refused start leaves a failed exchange, or a hash of
    no kind, and H and a digest become zeros.
    10 to 18 in a step are a peer's fault: the whole room becomes zeros and the exchange has failed for good with that number; of it only
-   role, method and number are left, no length and no K. Outputs stay, H becomes zeros. Where there is no exchange (strings, mpints, KEXINIT, choice) 10
-   to 13 change nothing. */
+   role, method and number are left, no length and no K. Outputs stay, H becomes zeros. Where there is no exchange (strings, mpints,
+   KEXINIT, choice) 10 to 13 change nothing. */
 
 enum castulfrisa_number {
     CASTULFRISA_OK = 0,                  /* accepted */
@@ -373,10 +374,10 @@ CASTULFRISA_MUST_USE uint64_t castulfrisa_state(const uint8_t *exchange, uint64_
 CASTULFRISA_MUST_USE uint64_t castulfrisa_hash_start(uint8_t *hash, uint64_t hash_len, uint64_t kind);
 
 /* Feeds a part. Two parts are as good as the two joined, and an empty one changes nothing.
-   4: hash_len; bytes that no hash has, for an empty part too; more than CASTULFRISA_HASH_MOST bytes fed in all. */
+   4: no hash, for an empty part too; or more than CASTULFRISA_HASH_MOST bytes in all. */
 CASTULFRISA_MUST_USE uint64_t castulfrisa_hash_feed(uint8_t *hash, uint64_t hash_len, const uint8_t *part, uint64_t part_len);
 
-/* The digest of what was fed. The hash stays, and may be fed on. 4: hash_len; bytes that no hash has. */
+/* The digest of what was fed. The hash stays, and may be fed on. 4: no hash. */
 CASTULFRISA_MUST_USE uint64_t castulfrisa_hash_finish(const uint8_t *hash, uint64_t hash_len, uint8_t digest[CASTULFRISA_H_SIZE]);
 
 /* ---- for the host */
