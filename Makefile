@@ -1,6 +1,6 @@
 # Two commands for a newcomer: `make demo` runs what there is, `make test` is the gate. `make lib` leaves the static library in build/.
 .PHONY: demo test vectors needs cross lib bench dock c-host rust-host host host-test c-test rust-test script bench-test differ-test live-test same \
-	targets soak measure
+	hybrids targets soak measure
 
 WARN = -Wall -Wextra -Werror -pedantic -O2 -Iinclude
 CARGO = cargo --offline --quiet
@@ -108,7 +108,7 @@ rust-test: rust-host
 # A script of calls, and plain Rust's answers.
 script: rust-host
 	@mkdir -p build/host
-	$(RUST)/script $(SEED) 3000 2000 > build/host/script
+	$(RUST)/script $(SEED) 3000 2000 2000 > build/host/script
 	$(RUST)/plain_bench < build/host/script > build/host/answers
 
 bench-test: c-host script
@@ -120,10 +120,24 @@ bench-test: c-host script
 
 differ-test: rust-host
 	$(RUST)/differ --seed $(SEED)
-	$(RUST_SMALL)/differ --seed $(SEED) --lists 100000 --rounds 30000
+	$(RUST_SMALL)/differ --seed $(SEED) --lists 100000 --rounds 30000 --hashes 30000
 
 live-test: c-host
 	python3 tests/live/live.py --dock build/dock --dock-asan build/host/dock_san
+
+# Methods 7 to 9 live, on demand: Debian 12's libcrypto has no ML-KEM, so trixie's is fetched from Debian's archive, with its OpenSSH and PuTTY, and libssh
+# of forky, and unpacked into build/; nothing is installed. What is made with their libraries runs with their C library too.
+HYBRIDS = build/hybrids
+MULTIARCH = $(shell gcc -print-multiarch)
+NEWER = -Wl,--allow-shlib-undefined
+hybrids: lib needs
+	@sh tests/suite.sh trixie $(HYBRIDS)/trixie openssh-server openssh-client putty-tools libssl-dev
+	@sh tests/suite.sh forky $(HYBRIDS)/forky libssh-dev
+	gcc -std=c11 $(WARN) -isystem $(HYBRIDS)/trixie/usr/include -isystem $(HYBRIDS)/trixie/usr/include/$(MULTIARCH) host/dock/*.c $(LIB) \
+		$(HYBRIDS)/trixie/usr/lib/$(MULTIARCH)/libcrypto.so $(NEWER) -o $(HYBRIDS)/dock
+	gcc -std=c11 $(WARN) -idirafter $(HYBRIDS)/forky/usr/include tests/live/libssh_peer.c $(HYBRIDS)/forky/usr/lib/$(MULTIARCH)/libssh.so $(NEWER) \
+		-o $(HYBRIDS)/libssh_peer
+	python3 tests/live/hybrids.py --dock $(HYBRIDS)/dock --suite $(HYBRIDS)/trixie --libssh $(HYBRIDS)/forky --peer $(HYBRIDS)/libssh_peer
 
 # The library for other machines, under qemu: header, stack, the script, document 01's examples and the captures, and what it costs there.
 targets: cross script
@@ -133,8 +147,8 @@ targets: cross script
 # Longer runs: exchanges with a real sshd, and the library against the plain implementation, with another seed each time.
 soak: host
 	python3 tests/live/soak.py --dock build/dock --count 2000
-	$(RUST)/differ --seed $$(date +%s) --lists 20000000 --rounds 4000000 --progress
-	$(RUST_SMALL)/differ --seed $$(date +%s) --lists 2000000 --rounds 400000 --progress
+	$(RUST)/differ --seed $$(date +%s) --lists 20000000 --rounds 4000000 --hashes 4000000 --progress
+	$(RUST_SMALL)/differ --seed $$(date +%s) --lists 2000000 --rounds 400000 --hashes 400000 --progress
 
 # docs/MEASUREMENTS.md has what this printed. Archives for other machines count where they were made.
 measure: rust-host

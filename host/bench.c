@@ -1,6 +1,6 @@
 /* The bench: reads calls from standard input, one a line, makes them through the boundary and prints an answer line for each, so
    that the library can be held against another implementation given the same script. What it prints comes out of the library;
-   the only answers of its own are the 0 of room, poke, set and blank, which are no calls of the library. */
+   the only answers of its own are the 0 of room, poke, set, blank and shaset, which are no calls of the library. */
 #define _POSIX_C_SOURCE 200809L
 #include "castulfrisa.h"
 #include <inttypes.h>
@@ -20,6 +20,9 @@ _Static_assert(K_AT + CASTULFRISA_K == CASTULFRISA_EXCHANGE, "the exchange's byt
 #define MARK 1                 /* of this layout: bytes with another mark are no exchange's */
 #define LENGTH_MOST UINT16_MAX /* the most that a recorded length's two bytes hold */
 
+/* Those of a hash, likewise: its kind, and two numbers of eight bytes, the bytes fed in all and those that wait. */
+enum { KIND_AT = 0, TOTAL_AT = 1, TAIL_AT = 9 };
+
 typedef struct { uint8_t *at; size_t len; } bytes; /* a block of exactly len bytes; NULL for none */
 
 /* ---- what is kept between lines */
@@ -27,7 +30,7 @@ typedef struct { uint8_t *at; size_t len; } bytes; /* a block of exactly len byt
 static unsigned long line; /* the number of the line in hand, for its error */
 static char *text;         /* its text, in getline's buffer */
 static size_t text_room;
-static bytes lent[MOST_TOKENS]; /* the blocks that this line lends, fewer than its tokens, freed after its answer */
+static bytes lent[MOST_TOKENS]; /* the blocks that this line lends, no more than its tokens, freed after its answer */
 static size_t lents;
 
 static uint8_t exchange[CASTULFRISA_EXCHANGE]; /* its fail number is 0 unless it failed, as in every answer line */
@@ -36,6 +39,7 @@ static uint64_t wide[LENGTHS];                 /* a length that was set above wh
 static bytes room;
 static bytes view; /* the payload that open was given, and where next stands in it */
 static castulfrisa_cursor cursor;
+static uint8_t hash[CASTULFRISA_HASH_SIZE];
 
 /* Frees what the line has lent. */
 static void give_back(void)
@@ -154,17 +158,29 @@ static void put_number(uint64_t n) { printf("%" PRIu64, n); }
 /* A count, or a yes/no as 1 or 0. */
 static void put_count(uint64_t n) { printf(" %" PRIu64, n); }
 
+static void put_hex(const uint8_t *at, size_t len)
+{
+    static const char hex[] = "0123456789abcdef";
+    for (size_t i = 0; i < len; i++) {
+        putchar_unlocked(hex[at[i] >> 4]);
+        putchar_unlocked(hex[at[i] & 15]);
+    }
+}
+
 /* A part of input. A part outside it would be the library's fault, and its bytes nobody's. */
 static void put_part(castulfrisa_part p, bytes input)
 {
-    static const char hex[] = "0123456789abcdef";
     if (p.start > input.len || p.len > input.len - p.start) bad("the library gave a part outside its input");
     printf(" %" PRIu64 ":", p.start);
     if (p.len == 0) putchar('-');
-    for (size_t i = (size_t)p.start; i < p.start + p.len; i++) {
-        putchar_unlocked(hex[input.at[i] >> 4]);
-        putchar_unlocked(hex[input.at[i] & 15]);
-    }
+    else put_hex(input.at + p.start, (size_t)p.len);
+}
+
+/* H or a digest, all of its bytes. */
+static void put_h(bytes h)
+{
+    putchar(' ');
+    put_hex(h.at, h.len);
 }
 
 /* n modulo 2^31 - 1, for n below 2^61. A division of 64 bits is a call on a machine of 32, and this one is made for each byte. */
@@ -355,6 +371,59 @@ static void call_choose(char **t)
     put_count(c.ignore_server);
 }
 
+/* ---- the hash */
+
+/* A place for H or a digest. Any byte of it that the library leaves alone shows in the answer. */
+static bytes lend_h(void)
+{
+    bytes h = block(CASTULFRISA_H_SIZE);
+    memset(h.at, 0xa5, h.len);
+    return h;
+}
+
+static uint64_t hash_number(size_t at)
+{
+    uint64_t n = 0;
+    for (size_t i = 0; i < 8; i++) n = n << 8 | hash[at + i];
+    return n;
+}
+
+static void set_hash_number(size_t at, uint64_t n)
+{
+    for (size_t i = 8; i > 0; i--, n >>= 8) hash[at + i - 1] = (uint8_t)n;
+}
+
+static void put_hash(uint64_t n)
+{
+    put_number(n);
+    printf(" %u.%" PRIu64 ".%" PRIu64, hash[KIND_AT], hash_number(TOTAL_AT), hash_number(TAIL_AT));
+}
+
+static void call_sha(char **t) { put_hash(castulfrisa_hash_start(hash, sizeof hash, byte(t[1]))); }
+
+static void call_feed(char **t)
+{
+    bytes part = lend(t[1]);
+    put_hash(castulfrisa_hash_feed(hash, sizeof hash, part.at, part.len));
+}
+
+static void call_finish(char **t)
+{
+    (void)t;
+    bytes digest = lend_h();
+    put_number(castulfrisa_hash_finish(hash, sizeof hash, digest.at));
+    put_h(digest);
+}
+
+static void call_shaset(char **t)
+{
+    if (strcmp(t[1], "kind") == 0) hash[KIND_AT] = byte(t[2]);
+    else if (strcmp(t[1], "total") == 0) set_hash_number(TOTAL_AT, number(t[2], UINT64_MAX));
+    else if (strcmp(t[1], "tail") == 0) set_hash_number(TAIL_AT, number(t[2], UINT64_MAX));
+    else bad("unknown field");
+    put_hash(0);
+}
+
 /* ---- what stands between the steps: room and record as a test wants them */
 
 static void call_room(char **t)
@@ -478,11 +547,12 @@ static void call_secret(char **t)
     uint64_t x_count = given ? number(t[1] + 1, UINT64_MAX) : 0;
     bytes x = lend(t[2]);
     uint64_t kem = word(t[3], kems, COUNT(kems), "the KEM is none of a, f and d");
-    bytes digest = lend(t[4]), ks = lend(t[5]), s = lend(t[6]);
+    bytes k_pq = lend(t[4]), ks = lend(t[5]), s = lend(t[6]), h = lend_h();
     LEND(uint64_t, count);
-    put_step(castulfrisa_take_secret(handed(), CASTULFRISA_EXCHANGE, room.at, room.len, given, x_count, x.at, x.len, kem, digest.at,
-                                     digest.len, ks.at, ks.len, s.at, s.len, &count));
+    put_step(castulfrisa_take_secret(handed(), CASTULFRISA_EXCHANGE, room.at, room.len, given, x_count, x.at, x.len, kem, k_pq.at,
+                                     k_pq.len, ks.at, ks.len, s.at, s.len, &count, h.at));
     put_count(count);
+    put_h(h);
 }
 
 static void call_sign(char **t)
@@ -524,6 +594,10 @@ static const struct call {
     {"names", 3, call_names, false},
     {"wkex", MOST_TOKENS, call_wkex, false},
     {"choose", 3, call_choose, false},
+    {"sha", 2, call_sha, false},
+    {"feed", 2, call_feed, false},
+    {"finish", 1, call_finish, false},
+    {"shaset", 3, call_shaset, false},
     {"room", 2, call_room, true},
     {"poke", 3, call_poke, true},
     {"set", 3, call_set, true},
@@ -597,6 +671,7 @@ int main(int argc, char **argv)
     castulfrisa_opened refused;
     if (castulfrisa_open_list(NULL, 0, 0, &refused) == 0) bad("the library opens no bytes");
     cursor = refused.cursor;
+    if (castulfrisa_hash_start(hash, sizeof hash, 0) == 0) bad("the library starts a hash of no kind");
 
     while ((got = getline(&text, &text_room, stdin)) > 0) {
         size_t len = (size_t)got;

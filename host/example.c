@@ -19,7 +19,7 @@
 struct side {
     uint8_t exchange[CASTULFRISA_EXCHANGE], room[CASTULFRISA_ROOM];
     EVP_PKEY *own; /* the ephemeral key */
-    uint8_t x[32], h[32], k[CASTULFRISA_K];
+    uint8_t x[32], h[CASTULFRISA_H_SIZE], k[CASTULFRISA_K];
     uint64_t k_len;
 };
 
@@ -60,30 +60,24 @@ static int x25519(EVP_PKEY *own, const uint8_t *value, uint64_t len, uint8_t x[3
     return given;
 }
 
-/* H: the digest of the room's beginning. */
-static int hash(struct side *a, uint64_t count)
-{
-    size_t len = 0;
-    return EVP_Q_digest(NULL, "SHA256", NULL, a->room, count, a->h, &len) == 1 && len == sizeof a->h;
-}
-
-static int sign(const uint8_t h[32], uint8_t signature[64])
+/* Over H, of whose 64 bytes this method's digest has the first 32. */
+static int sign(const uint8_t *h, uint8_t signature[64])
 {
     EVP_MD_CTX *context = EVP_MD_CTX_new();
     size_t len = 64;
     int made = context != NULL && EVP_DigestSignInit_ex(context, NULL, NULL, NULL, NULL, host_key, NULL) == 1
-        && EVP_DigestSign(context, signature, &len, h, 32) == 1 && len == 64;
+        && EVP_DigestSign(context, signature, &len, h, CASTULFRISA_SHA256) == 1 && len == 64;
     EVP_MD_CTX_free(context);
     return made;
 }
 
-static int verify(const uint8_t key[32], const uint8_t signature[64], const uint8_t h[32])
+static int verify(const uint8_t key[32], const uint8_t signature[64], const uint8_t *h)
 {
     EVP_PKEY *public_key = EVP_PKEY_new_raw_public_key_ex(NULL, "ED25519", NULL, key, 32);
     EVP_MD_CTX *context = EVP_MD_CTX_new();
     int holds = public_key != NULL && context != NULL
         && EVP_DigestVerifyInit_ex(context, NULL, NULL, NULL, NULL, public_key, NULL) == 1
-        && EVP_DigestVerify(context, signature, 64, h, 32) == 1;
+        && EVP_DigestVerify(context, signature, 64, h, CASTULFRISA_SHA256) == 1;
     EVP_MD_CTX_free(context);
     EVP_PKEY_free(public_key);
     return holds;
@@ -148,16 +142,16 @@ static int client_begins(struct side *a)
         && accepted("own_c", castulfrisa_own_c(EXCHANGE(a), ROOM(a), c, sizeof c, init.bytes, sizeof init.bytes, &init.len));
 }
 
-/* What the primitive gave goes to the core, also that it failed; then H. K_S and S are a server's. */
+/* What the primitive gave goes to the core, also that it failed; H comes out of it. K_S and S are a server's. */
 static int take_secret(struct side *a, const uint8_t *value, uint64_t value_len, const uint8_t *ks, uint64_t ks_len, const uint8_t *s,
                        uint64_t s_len)
 {
     size_t x_count;
     uint64_t count, given = x25519(a->own, value, value_len, a->x, &x_count) ? 1 : 0;
     uint64_t number = castulfrisa_take_secret(EXCHANGE(a), ROOM(a), given, x_count, a->x, sizeof a->x, CASTULFRISA_KEM_ABSENT, NULL, 0, ks,
-                                              ks_len, s, s_len, &count);
+                                              ks_len, s, s_len, &count, a->h);
     castulfrisa_wipe_stack();
-    return accepted("take_secret", number) && hash(a, count);
+    return accepted("take_secret", number);
 }
 
 static int server_answers(struct side *a)

@@ -1,25 +1,28 @@
 /* castulfrisa: the key-exchange core of SSH, as one static library: libcastulfrisa.a for speed, or libcastulfrisa-small.a for size. C99 and
    C++, 32 and 64 bits.
 
-   It reads and writes the messages, negotiates, encodes the shared secret and builds the hash input. Random numbers, curve and KEM
-   primitives, digests, signatures and known-host lists are the host's; so are memcpy and memset, which the library calls. It keeps
-   nothing: no memory, no pointer, no state. It takes any bytes and any call at any time, and every call ends.
+   It reads and writes the messages, negotiates, encodes the shared secret, builds the hash input and hashes it. Random numbers, curve and
+   KEM primitives, signatures and known-host lists are the host's; so are memcpy and memset, which the library calls. It keeps nothing: no
+   memory, no pointer, no state. It takes any bytes and any call at any time, and every call ends.
 
    WHAT CROSSES
-   - Buffers as a pointer and a 64-bit length in bytes, 64-bit numbers, and pointers to 64-bit numbers that the call fills in; nothing
-     else, so that one library serves every calling convention. The structs below are runs of 64-bit numbers and cross as a pointer. On
-     32 bits a length is a 64-bit number too, wider than size_t: the prototypes convert what is handed in, and a size_t takes what is told.
-   - A buffer's length of 0 takes any pointer, also NULL. A pointer to numbers is never NULL, and stands at a multiple of 8.
+   - Buffers as a pointer and a 64-bit length in bytes, 64-bit numbers, pointers to 64-bit numbers that the call fills in, and to the 64
+     bytes of H or of a digest; nothing else, so that one library serves every calling convention. The structs below are runs of 64-bit
+     numbers and cross as a pointer. On 32 bits a length is a 64-bit number too, wider than size_t: the prototypes convert what is handed
+     in, and a size_t takes what is told.
+   - A buffer's length of 0 takes any pointer, also NULL. A pointer to numbers is never NULL, and stands at a multiple of 8; one to H or to a
+     digest is never NULL.
    - Every buffer stays the caller's. `const` buffers are read and never written. What is written, buffer or numbers, shares no byte with
      anything else of the same call; and while a call runs, nobody else writes what it was lent or reads what it writes.
    - An output is written from its first byte on. Bytes past those that are counted stay as they were; but the output for K gets all
      CASTULFRISA_K bytes, zeros after K.
+   - H and a digest have CASTULFRISA_H_SIZE bytes, which every answer writes: zeros after the digest, all zeros on a refusal.
 
    ANSWERS
    - A call returns its number: 0, or the first cause against it (enum castulfrisa_number; castulfrisa_text has a sentence for each).
      There is no other error channel. Only castulfrisa_method_number, castulfrisa_version and castulfrisa_join return something else.
    - On any number but 0 all that is told through lent numbers is 0, but a bad list's number and a cursor (castulfrisa_next_name's stays, a
-     refused castulfrisa_open_list's yields only the end), and all outputs are as they were.
+     refused castulfrisa_open_list's yields only the end), and all outputs but H and a digest are as they were.
    - A part is a place in the payload that was handed in: bytes payload[start] to payload[start + len - 1].
    - Numbers are judged as they come, all 64 bits: 257 is no method. A yes is 1; every other number, 2 too, is a no. A yes/no that is
      told is 1 or 0.
@@ -31,7 +34,13 @@
    - The room is the caller's buffer of at least CASTULFRISA_ROOM bytes, the same at every call of one exchange and no other's, and nobody
      writes to it in between. It begins with the fields of the hash input so far.
    - From the secret step on, exchange and room hold the shared secret. The library wipes both on a peer's fault only: when the keys are
-     derived, castulfrisa_wipe them, and castulfrisa_wipe_stack what the calls left below them. */
+     derived, castulfrisa_wipe them, and castulfrisa_wipe_stack what the calls left below them.
+
+   A HASH
+   - It is a buffer of CASTULFRISA_HASH_SIZE bytes, the caller's, which only the library reads and writes: castulfrisa_hash_start makes it,
+     castulfrisa_hash_feed changes it in place. A copy is a hash of its own. Its kind and the two lengths in it are judged at every call; a
+     buffer where they do not fit, or of another length, is answered 4 and stays. It holds bytes of what it was fed: castulfrisa_wipe it
+     where they are secret. An exchange needs none: castulfrisa_take_secret hands out H. */
 #ifndef CASTULFRISA_H
 #define CASTULFRISA_H
 
@@ -43,7 +52,7 @@ extern "C" {
 
 /* The number of this header. castulfrisa_version() tells the archive's: where the two differ, they are of different days. It goes up
    by one where an entry or a size changes. */
-#define CASTULFRISA_VERSION 2
+#define CASTULFRISA_VERSION 3
 
 #if defined(__GNUC__)
 #define CASTULFRISA_MUST_USE __attribute__((warn_unused_result))
@@ -71,7 +80,10 @@ extern "C" {
 #define CASTULFRISA_PAYLOAD_MOST 32768 /* INIT and REPLY as received: 1 to this */
 #define CASTULFRISA_VALUE_MOST 1665    /* C and S of any method; castulfrisa_method_sizes has each */
 #define CASTULFRISA_X_MOST 66          /* the classical output X of any method */
-#define CASTULFRISA_DIGEST_MOST 64     /* the digest of any method */
+#define CASTULFRISA_K_PQ_SIZE 32       /* the KEM's output K_PQ, exactly, in methods 7 to 9 */
+#define CASTULFRISA_H_SIZE 64          /* H, and a digest, exactly: the digest's own bytes, then zeros */
+#define CASTULFRISA_HASH_SIZE 209      /* a hash, exactly */
+#define CASTULFRISA_HASH_MOST 65536    /* what one hash is fed in all */
 #define CASTULFRISA_COOKIE 16          /* a KEXINIT's cookie */
 #define CASTULFRISA_LISTS 10           /* a KEXINIT's lists; this is a count */
 #define CASTULFRISA_METHOD_NAME_MOST 28 /* the name of any method */
@@ -83,17 +95,18 @@ extern "C" {
 #endif
 
 /* ---- numbers given back
-   1 to 5 and 19 to 22: nothing changes, neither exchange, room nor output; but a refused start leaves a failed exchange.
+   1 to 5 and 19 to 22: nothing changes, neither exchange, room, hash nor output; but a refused start leaves a failed exchange, or a hash of
+   no kind, and H and a digest become zeros.
    10 to 18 in a step are a peer's fault: the whole room becomes zeros and the exchange has failed for good with that number; of it only
-   role, method and number are left, no length and no K. Outputs stay. Where there is no exchange (strings, mpints, KEXINIT, choice) 10
-   to 13 change nothing. */
+   role, method and number are left, no length and no K. Outputs stay, H becomes zeros. Where there is no exchange (strings, mpints,
+   KEXINIT, choice) 10 to 13 change nothing. */
 
 enum castulfrisa_number {
     CASTULFRISA_OK = 0,                  /* accepted */
     CASTULFRISA_NOT_DUE = 1,             /* the step is not due, also when complete or failed; or the bytes are no exchange's */
     CASTULFRISA_NO_METHOD = 2,           /* method not 1 to 9, or role neither client nor server */
     CASTULFRISA_SHORT_ROOM = 3,          /* room too short */
-    CASTULFRISA_BAD_INPUT = 4,           /* a field, outcome or digest handed in by the caller has a wrong length or form */
+    CASTULFRISA_BAD_INPUT = 4,           /* a field, outcome, K_PQ or hash handed in by the caller has a wrong length or form */
     CASTULFRISA_SHORT_OUTPUT = 5,        /* an output too short */
     CASTULFRISA_PAYLOAD_SIZE = 10,       /* payload empty or too long */
     CASTULFRISA_MESSAGE = 11,            /* another message's number */
@@ -150,6 +163,9 @@ enum castulfrisa_stage {
 
 enum castulfrisa_kem { CASTULFRISA_KEM_ABSENT = 0, CASTULFRISA_KEM_FAILED = 1, CASTULFRISA_KEM_DONE = 2 };
 
+/* The kinds of hash: each is its digest's length. */
+enum castulfrisa_kind { CASTULFRISA_SHA256 = 32, CASTULFRISA_SHA384 = 48, CASTULFRISA_SHA512 = 64 };
+
 /* ---- what calls tell, each a run of 64-bit numbers */
 
 typedef struct { uint64_t start, len; } castulfrisa_part;
@@ -158,8 +174,8 @@ typedef struct { castulfrisa_part body, rest; } castulfrisa_string;
 typedef struct {
     uint64_t c_len, c_classical; /* C's length, and where its classical part begins behind the KEM's; 0 where there is no KEM */
     uint64_t s_len, s_classical; /* S's, likewise */
-    uint64_t x_len, digest_len;  /* lengths of the classical output X and of the digest */
-    uint64_t hybrid, zero_check; /* whether a KEM and a digest belong to it; whether an all-zero X is refused */
+    uint64_t x_len, digest_len;  /* lengths of the classical output X and of the digest in H, which is the kind of its hash */
+    uint64_t hybrid, zero_check; /* whether a KEM belongs to it; whether an all-zero X is refused */
 } castulfrisa_sizes;
 
 /* A place in a list, as castulfrisa_open_list makes it. */
@@ -299,20 +315,21 @@ CASTULFRISA_MUST_USE uint64_t castulfrisa_read_reply(
    x_count how many bytes the primitive says that it gave, beside how many are lent: where they differ from each other or from the
            method's X, it is 4, so that a primitive that wrote less than its buffer holds is noticed.
    kem     enum castulfrisa_kem: absent exactly in methods 1 to 6.
-   digest  of the KEM's and the classical output, in methods 7 to 9; empty where a primitive failed, and in methods 1 to 6.
-           An all-zero X counts as given: method 9 wants its digest.
+   k_pq    the KEM's CASTULFRISA_K_PQ_SIZE bytes where it is done, whatever the classical primitive did; empty where it is not.
    ks, s   a server's host key blob and own public value, also where a primitive failed; a client's are not looked at.
-   K goes into the exchange and the room; a server's K_S goes into the room ahead of C, its S behind it. Count: length of the hash
-   input, which is the room's beginning: hash that many bytes of it now.
+   h       becomes H: the method's hash of the room's first count bytes, as they stand behind this step.
+   K goes into the exchange and the room, in methods 7 to 9 the string of the method's hash of K_PQ and then X; a server's K_S goes into the
+   room ahead of C, its S behind it. Count: length of the hash input, which is the room's beginning.
    1; 3; 4: one of the inputs, also any other number for kem; 16, 17: the primitives' failures, the peer's fault. */
 CASTULFRISA_MUST_USE uint64_t castulfrisa_take_secret(
     uint8_t *exchange, uint64_t exchange_len, uint8_t *room, uint64_t room_len,
     uint64_t given, uint64_t x_count, const uint8_t *x, uint64_t x_len,
     uint64_t kem,
-    const uint8_t *digest, uint64_t digest_len,
+    const uint8_t *k_pq, uint64_t k_pq_len,
     const uint8_t *ks, uint64_t ks_len,
     const uint8_t *s, uint64_t s_len,
-    uint64_t *count);
+    uint64_t *count,
+    uint8_t h[CASTULFRISA_H_SIZE]);
 
 /* Server, last: the signature over the exchange hash, as a blob. REPLY is written into out, K's 71 bytes into k_out; the room is only
    read. 1; 3; 4: signature's length; 5: out below CASTULFRISA_REPLY or k_out below CASTULFRISA_K. */
@@ -350,6 +367,19 @@ CASTULFRISA_MUST_USE uint64_t castulfrisa_reply_signature(
    number that ended it is no exchange's, and all of it is 0. Whether the rest fits, the next step judges. */
 CASTULFRISA_MUST_USE uint64_t castulfrisa_state(const uint8_t *exchange, uint64_t exchange_len, castulfrisa_progress *told);
 
+/* ---- hashes (FIPS 180-4), for what a host hashes besides */
+
+/* Starts a hash of a kind (enum castulfrisa_kind), in a buffer that may hold anything.
+   4: hash_len, and the buffer stays; or another kind, and what stands there is then a hash of no kind, which every call refuses. */
+CASTULFRISA_MUST_USE uint64_t castulfrisa_hash_start(uint8_t *hash, uint64_t hash_len, uint64_t kind);
+
+/* Feeds a part. Two parts are as good as the two joined, and an empty one changes nothing.
+   4: no hash, for an empty part too; or more than CASTULFRISA_HASH_MOST bytes in all. */
+CASTULFRISA_MUST_USE uint64_t castulfrisa_hash_feed(uint8_t *hash, uint64_t hash_len, const uint8_t *part, uint64_t part_len);
+
+/* The digest of what was fed. The hash stays, and may be fed on. 4: no hash. */
+CASTULFRISA_MUST_USE uint64_t castulfrisa_hash_finish(const uint8_t *hash, uint64_t hash_len, uint8_t digest[CASTULFRISA_H_SIZE]);
+
 /* ---- for the host */
 
 /* Fills a buffer with zeros. It stands in the archive as machine code, out of the host compiler's sight, which can drop no part of it. */
@@ -360,8 +390,8 @@ CASTULFRISA_MUST_USE uint64_t castulfrisa_version(void);
 
 /* ---- in the header, so that they cost nothing where they are not used */
 
-/* Overwrites CASTULFRISA_STACK bytes of stack below the caller's frame, which must be there: K and X stay there in copies that the compiler
-   made. Call it from the function that made the calls. For gcc and clang: another compiler may put it into the caller's own frame. */
+/* Overwrites CASTULFRISA_STACK bytes of stack below the caller's frame, which must be there: K, K_PQ and X stay there in copies that the
+   compiler made. Call it from the function that made the calls. For gcc and clang: another compiler may put it into the caller's own frame. */
 #if defined(__GNUC__)
 static CASTULFRISA_NOINLINE void castulfrisa_wipe_stack(void)
 {
@@ -395,7 +425,7 @@ CASTULFRISA_MUST_USE static inline const char *castulfrisa_text(uint64_t number)
     case CASTULFRISA_NOT_DUE: return "the step is not due, or the bytes lent for the exchange are none";
     case CASTULFRISA_NO_METHOD: return "there is no such method or role";
     case CASTULFRISA_SHORT_ROOM: return "the room is too short";
-    case CASTULFRISA_BAD_INPUT: return "a field, outcome or digest handed in has a wrong length or form";
+    case CASTULFRISA_BAD_INPUT: return "a field, outcome, K_PQ or hash handed in has a wrong length or form";
     case CASTULFRISA_SHORT_OUTPUT: return "an output is too short";
     case CASTULFRISA_PAYLOAD_SIZE: return "the payload is empty or too long";
     case CASTULFRISA_MESSAGE: return "the payload is another message";

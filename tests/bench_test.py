@@ -1,9 +1,10 @@
 #!/usr/bin/env python3
-"""The bench as a program: document 01's examples and the captured exchanges through it, each answer computed here, and what it does with
-lines that are none.
+"""The bench as a program: document 01's examples, hashes and the captured exchanges through it, each answer computed here, with Python's
+own SHA-2, and what it does with lines that are none.
 
 usage: bench_test.py BENCH      (a program, or a command of several words: what runs it, and the program)
 """
+import hashlib
 import subprocess
 import sys
 
@@ -31,6 +32,14 @@ def out(data):
 
 def h(b):
     return b.hex() or '-'
+
+
+def sha(kind, data):
+    """The digest of a kind, zeros after it, in hex."""
+    return hashlib.new(f'sha{8 * kind}', data).hexdigest().ljust(128, '0')
+
+
+ZEROS = '0' * 128
 
 
 # ---- document 01's worked and run-only examples: line, and what its answer begins with
@@ -67,15 +76,101 @@ def secrets():
         k = bytes.fromhex(k)
         lines = server(method, point, x) + ['sign 73 00*5774 00*71']
         reply = bytes([31]) + string(b'k') + string(point) + string(b's')
-        hashed = 2 * len(string(b'a')) + 2 * len(string(b'\x14')) + len(string(b'k')) + 2 * len(string(point)) + len(k)
-        yield lines, ['0', '0', '0 5:', f'0 {hashed} |',
+        hashed = b''.join(map(string, (b'a', b'b', b'\x14', b'\x14', b'k', point, point))) + k
+        yield lines, ['0', '0', '0 5:', f'0 {len(hashed)} {sha(32 if method == 4 else 64, hashed)} |',
                       f'0 {len(reply)} {len(k)} {out(reply + bytes(5774 - len(reply)))} {out(k + bytes(71 - len(k)))}']
     # P3: an all-zero X where the check is on
-    yield server(1, bytes(32), bytes(32)), ['0', '0', '0', '16 0 | ex 2.1.failed.16.0,0,0,0,0,0,0']
+    yield server(1, bytes(32), bytes(32)), ['0', '0', '0', f'16 0 {ZEROS} | ex 2.1.failed.16.0,0,0,0,0,0,0']
     c9, s9 = bytes(1216), bytes(1120)
     lines = server(9, c9, bytes(32), s=s9)
     lines[3] = f'secret G32 {h(bytes(32))} d {h(bytes(32))} {h(b"k")} {h(s9)}'
-    yield lines, ['0', '0', '0', '16 0 | ex 2.9.failed.16.0,0,0,0,0,0,0']
+    yield lines, ['0', '0', '0', f'16 0 {ZEROS} | ex 2.9.failed.16.0,0,0,0,0,0,0']
+
+
+def hybrids():
+    """K_PQ is of 32 bytes exactly where the KEM is done, whatever the classical outcome; K is the hash of K_PQ and then X."""
+    for method, c_len, s_len, x_len, kind, nist in ((7, 1249, 1153, 32, 32, True), (8, 1665, 1665, 48, 48, True), (9, 1216, 1120, 32, 32, False)):
+        kem_c, kem_s = {7: (1184, 1088), 8: (1568, 1568), 9: (1184, 1088)}[method]
+        c, s = (bytes([0xc0]) * n for n in (c_len, s_len))
+        if nist:
+            c, s = c[:kem_c] + b'\4' + c[kem_c + 1:], s[:kem_s] + b'\4' + s[kem_s + 1:]
+        x, k_pq, own = b'\0\x80' + b'\x11' * (x_len - 2), b'\x5a' * 32, f'{h(b"k")} {h(s)}'
+        k = string(bytes.fromhex(sha(kind, k_pq + x)[:2 * kind]))
+        hashed = b''.join(map(string, (b'a', b'b', b'\x14', b'\x14', b'k', c, s))) + k
+        at = f' | ex 2.{method}.init.0.1,1,1,1,0,{c_len},0 k={digest(bytes(71))}'
+        begin = server(method, c, x, s)[:3]
+        given = f'secret G{x_len} {h(x)}'
+        for refused in (f'{given} d - {own}', f'{given} d {h(k_pq[1:])} {own}', f'{given} d {h(k_pq + k_pq[:1])} {own}',
+                        f'{given} f {h(k_pq)} {own}', f'{given} a {h(k_pq)} {own}', f'{given} a - {own}',
+                        f'secret F - d - {own}', f'secret F - f {h(k_pq)} {own}'):
+            yield begin + [refused], ['0', '0', '0', f'4 0 {ZEROS}{at}']
+        for ends, number in ((f'secret F - d {h(k_pq)} {own}', 16), (f'secret F - f - {own}', 16), (f'{given} f - {own}', 17)):
+            yield begin + [ends], ['0', '0', '0', f'{number} 0 {ZEROS} | ex 2.{method}.failed.{number}.0,0,0,0,0,0,0']
+        yield begin + [f'{given} d {h(k_pq)} {own}'], [
+            '0', '0', '0', f'0 {len(hashed)} {sha(kind, hashed)} | ex 2.{method}.secret.0.1,1,1,1,1,{c_len},{s_len} '
+            f'k={digest(k.ljust(71, bytes(1)))} room={digest(hashed.ljust(14156, bytes(1)))}']
+        # what somebody wrote into the room is hashed as it stands there
+        poked = b'\0\0\0\1X' + hashed[5:]
+        yield begin + ['poke 4 58', f'{given} d {h(k_pq)} {own}'], ['0', '0', '0', '0', f'0 {len(hashed)} {sha(kind, poked)} |']
+    # in methods 1 to 6 K_PQ is empty, and a KEM that is done is 4 whatever K_PQ is
+    for kem, k_pq in (('a', b'\x5a' * 32), ('d', b''), ('d', b'\x5a' * 32), ('f', b'')):
+        lines = server(1, bytes(32), b'\1' * 32)
+        lines[3] = f'secret G32 {h(bytes([1]) * 32)} {kem} {h(k_pq)} {h(b"k")} {h(bytes(32))}'
+        yield lines, ['0', '0', '0', f'4 0 {ZEROS} |']
+
+
+def hashes():
+    """Every tail that there is, whole and in parts; states that do not fit; 65,535, 65,536 and 65,537 bytes in all."""
+    yield 'finish', f'4 {ZEROS}'  # before anything is said it is what a refused sha hands back
+    yield 'feed -', '4 0.0.0'
+    message = bytes((7 * i + 3) % 256 for i in range(300))
+    for kind, block in ((32, 64), (48, 128), (64, 128)):
+        def state(total, of=kind, tail=None, block=block):
+            return f'{of}.{total}.{total % block if tail is None else tail}'
+
+        for n in range(0, 300, 1 if kind == 32 else 3):
+            first = n * 5 // 7
+            yield f'sha {kind}', f'0 {state(0)}'
+            yield f'feed {h(message[:first])}', f'0 {state(first)}'
+            yield f'feed {h(message[first:n])}', f'0 {state(n)}'
+            yield 'finish', f'0 {sha(kind, message[:n])}'
+            yield 'feed -', f'0 {state(n)}'
+            yield 'finish', f'0 {sha(kind, message[:n])}'
+        yield f'sha {kind}', f'0 {state(0)}'
+        yield 'feed 61*65537', f'4 {state(0)}'
+        yield 'feed 61*65535', f'0 {state(65535)}'
+        yield 'finish', f'0 {sha(kind, b"a" * 65535)}'
+        yield 'feed 6161', f'4 {state(65535)}'
+        yield 'feed 61', f'0 {state(65536)}'
+        yield 'feed -', f'0 {state(65536)}'
+        yield 'feed 61', f'4 {state(65536)}'
+        yield 'finish', f'0 {sha(kind, b"a" * 65536)}'
+        for total in (65537, 65536 + block, 2**32, 2**64 - 1):
+            yield f'shaset total {total}', f'0 {state(total, tail=0)}'
+            yield 'finish', f'4 {ZEROS}'
+            yield 'feed -', f'4 {state(total, tail=0)}'
+        yield 'shaset total 65537', f'0 {state(65537, tail=0)}'
+        yield 'shaset tail 1', f'0 {state(65537)}'
+        yield 'finish', f'4 {ZEROS}'
+        yield 'feed -', f'4 {state(65537)}'
+        yield 'shaset tail 0', f'0 {state(65537, tail=0)}'
+        yield 'shaset total 65536', f'0 {state(65536)}'
+        for tail in (1, block - 1, block, 2**32, 2**64 - 1):
+            yield f'shaset tail {tail}', f'0 {state(65536, tail=tail)}'
+            yield 'feed -', f'4 {state(65536, tail=tail)}'
+            yield 'finish', f'4 {ZEROS}'
+        yield 'shaset tail 0', f'0 {state(65536)}'
+        for other in (0, 31, 33, 255):
+            yield f'shaset kind {other}', f'0 {state(65536, of=other)}'
+            yield 'feed -', f'4 {state(65536, of=other)}'
+            yield 'finish', f'4 {ZEROS}'
+        yield f'shaset kind {kind}', f'0 {state(65536)}'
+        yield 'finish', f'0 {sha(kind, b"a" * 65536)}'
+    for kind in (0, 1, 31, 33, 47, 49, 63, 65, 128, 255):
+        yield 'sha 32', '0 32.0.0'
+        yield f'sha {kind}', '4 0.0.0'
+        yield 'feed 61', '4 0.0.0'
+        yield 'finish', f'4 {ZEROS}'
 
 
 # RFC 4251, section 5, longer forms of its numbers, and P8 and P9: two's complement bytes, and the body that is written
@@ -129,7 +224,7 @@ def kexinits():
 
 def lists():
     """Calls that need no start, each with its whole answer."""
-    for cases in (codecs(), kexinits()):
+    for cases in (codecs(), kexinits(), hashes()):
         yield [list(words) for words in zip(*cases)]
 
 
@@ -158,7 +253,7 @@ def exchanges():
     for n in (4097, 65535, 65536, 65537, 2**32 + 1, 2**64 - 1):
         forged = f' | ex 2.1.started.0.1,1,{n},1,0,0,0'
         yield [room, begin, f'set l2 {n}', 'init 1e', 'secret F - a - - -', 'set l2 1', init], [
-            '0', whole, '0' + forged, '1 0:-' + forged, '1 0' + forged, whole, '0 5:']
+            '0', whole, '0' + forged, '1 0:-' + forged, f'1 0 {ZEROS}' + forged, whole, '0 5:']
         yield [room, begin, f'set l2 {n}', init, begin, init, f'set l6 {n}', 'blank'], [
             '0', whole, '0' + forged, '1 0:-' + forged, whole, '0 5:', f'0 | ex 2.1.init.0.1,1,1,1,0,32,{n}', zeros]
     yield ['blank', 'set fail 9'], ['0 | ex 0.0.failed.0.', '0 | ex 0.0.failed.9.']
@@ -174,9 +269,10 @@ def lent(data, size):
 
 
 def captured():
-    """Every captured exchange in both roles: what its steps tell, INIT, REPLY and K, and every byte of exchange and room after each."""
+    """Every captured exchange in both roles: what its steps tell, H, INIT, REPLY and K, and every byte of exchange and room after each."""
     for method, f in captures():
         k, k_out = f['K'], lent(f['K'].ljust(71, b'\0'), 75)
+        exchange_hash = f['H'].ljust(64, b'\0').hex()
         hashed = sum(len(string(f[name])) for name in HASHED) + len(k)
 
         def after(role, stage, names, k=b''):
@@ -194,17 +290,17 @@ def captured():
         def start(role):
             return ['room 55*14156', f'start {role} {method} ' + ' '.join(h(f[name]) for name in STARTED)]
 
-        secret = f'secret G{len(f["X"])} {h(f["X"])} {"d" if f["digest"] else "a"} {h(f["digest"])}'
+        secret = f'secret G{len(f["X"])} {h(f["X"])} {"d" if f["K_PQ"] else "a"} {h(f["K_PQ"])}'
         yield start(1) + [f'ownc {h(f["C"])} 55*1670', f'reply {h(f["REPLY"])}', f'{secret} - -', 'verdict 1 1 55*75'], [
             '0', '0' + after(1, 'started', STARTED),
             f'0 {len(f["INIT"])} {out(lent(f["INIT"], 1670))}' + after(1, 'own_c', WITH_C),
             '0' + ''.join(parts('K_S', 'S', 'signature')) + after(1, 'reply', HASHED),
-            f'0 {hashed}' + after(1, 'secret', HASHED, k),
+            f'0 {hashed} {exchange_hash}' + after(1, 'secret', HASHED, k),
             f'0 {len(k)} {out(k_out)}' + after(1, 'complete', HASHED, k)]
         yield start(2) + [f'init {h(f["INIT"])}', f'{secret} {h(f["K_S"])} {h(f["S"])}', f'sign {h(f["signature"])} 55*5774 55*75'], [
             '0', '0' + after(2, 'started', STARTED),
             '0' + ''.join(parts('C')) + after(2, 'init', WITH_C),
-            f'0 {hashed}' + after(2, 'secret', HASHED, k),
+            f'0 {hashed} {exchange_hash}' + after(2, 'secret', HASHED, k),
             f'0 {len(f["REPLY"])} {len(k)} {out(lent(f["REPLY"], 5774))} {out(k_out)}' + after(2, 'complete', HASHED, k)]
 
 
@@ -212,7 +308,8 @@ BAD = [
     'what', 'rstr', 'rstr 0', 'rstr 0g', 'rstr AB', 'rstr  00', 'rstr 00 ', ' rstr 00', 'rstr 00 00', 'rstr -*1', 'rstr *4',
     'rstr 00*x', 'rstr 00*-1', 'wstr 00', 'open 14 x', 'open 14 18446744073709551616', 'next 1', 'wkex 00 - - 0 0 -',
     'set what 1', 'set role 256', 'set l7 1', 'set k71 1', 'set stage ended', 'set fail', 'poke 0 00', 'start 256 1 - - - -',
-    'secret X - a - - -', 'secret G - a - - -', 'secret F - x - - -', 'verdict 2 1 -', 'verdict 1 1', 'rstr 00\r', 'rstr 00\0',
+    'secret X - a - - -', 'secret G - a - - -', 'secret F - x - - -', 'sha', 'sha 256', 'feed', 'feed 0', 'finish 1',
+    'shaset kind 256', 'shaset total 18446744073709551616', 'shaset held 0', 'verdict 2 1 -', 'verdict 1 1', 'rstr 00\r', 'rstr 00\0',
 ]
 
 
@@ -225,7 +322,7 @@ def main():
             failed.append(f'{what}: {have!r}, not {want!r}')
 
     count = 0
-    steps = [(lines, wants, str.startswith) for lines, wants in [*secrets(), *exchanges(), *captured()]]
+    steps = [(lines, wants, str.startswith) for lines, wants in [*secrets(), *hybrids(), *exchanges(), *captured()]]
     whole = [(lines, wants, str.__eq__) for lines, wants in lists()]
     for lines, wants, holds in steps + whole:
         status, answers, errors = run(bench, '\n'.join(lines) + '\n')

@@ -16,12 +16,13 @@ static castulfrisa_sizes z;
 static uint8_t v_c[CASTULFRISA_V_MOST + 1], v_s[CASTULFRISA_V_MOST + 1];
 static uint8_t i_c[CASTULFRISA_KEXINIT_MOST + 1], i_s[CASTULFRISA_KEXINIT_MOST + 1];
 static uint8_t c[CASTULFRISA_VALUE_MOST + 1], s[CASTULFRISA_VALUE_MOST + 1];
-static uint8_t x[CASTULFRISA_X_MOST + 1], digest[CASTULFRISA_DIGEST_MOST + 1];
+static uint8_t x[CASTULFRISA_X_MOST + 1], k_pq[CASTULFRISA_K_PQ_SIZE + 1];
 static uint8_t ks[CASTULFRISA_BLOB_MOST + 1], signature[CASTULFRISA_BLOB_MOST + 1];
 static const uint64_t v_c_len = 9, v_s_len = 8, i_c_len = 70, i_s_len = 80, ks_len = 11, signature_len = 7;
 
 static uint8_t init[CASTULFRISA_INIT], reply[CASTULFRISA_REPLY], hashed[ROOM], k[CASTULFRISA_K];
 static uint64_t init_len, reply_len, started_len, hashed_len, k_len;
+static uint8_t h_due[CASTULFRISA_H_SIZE];
 
 static uint64_t put(uint8_t *at, const uint8_t *body, uint64_t len)
 {
@@ -32,10 +33,19 @@ static uint64_t put(uint8_t *at, const uint8_t *body, uint64_t len)
     return 4 + len;
 }
 
+/* The method's hash of two parts, by the library's own calls, which header_test.c holds to known digests. */
+static void hash_of(const uint8_t *one, uint64_t one_len, const uint8_t *two, uint64_t two_len, uint8_t digest[CASTULFRISA_H_SIZE])
+{
+    uint8_t hash[CASTULFRISA_HASH_SIZE];
+    is(castulfrisa_hash_start(hash, sizeof hash, z.digest_len) == 0 && castulfrisa_hash_feed(hash, sizeof hash, one, one_len) == 0
+       && castulfrisa_hash_feed(hash, sizeof hash, two, two_len) == 0 && castulfrisa_hash_finish(hash, sizeof hash, digest) == 0, "a hash");
+}
+
 static int is_nist(void) { return method >= CASTULFRISA_NISTP256_SHA256 && method <= CASTULFRISA_MLKEM1024_NISTP384_SHA384; }
 
 static void material(uint64_t m)
 {
+    uint8_t digest[CASTULFRISA_H_SIZE];
     method = m;
     is(castulfrisa_method_sizes(m, &z) == 0, "a method");
     memset(v_c, 'c', sizeof v_c);
@@ -45,12 +55,13 @@ static void material(uint64_t m)
     memset(c, 4, sizeof c);
     memset(s, 4, sizeof s);
     memset(x, 0x91, sizeof x);
-    memset(digest, 0x92, sizeof digest);
+    memset(k_pq, 0x92, sizeof k_pq);
     memset(ks, 0x4b, sizeof ks);
     memset(signature, 0x77, sizeof signature);
 
-    /* K: of a hybrid the digest's string, of the others X as an mpint, a zero longer for its high bit */
+    /* K: of a hybrid the string of the digest of K_PQ and X, of the others X as an mpint, a zero longer for its high bit */
     memset(k, 0, sizeof k);
+    hash_of(k_pq, CASTULFRISA_K_PQ_SIZE, x, z.x_len, digest);
     k_len = z.hybrid ? put(k, digest, z.digest_len) : put(k, x, z.x_len + 1);
     if (!z.hybrid) k[4] = 0;
 
@@ -71,6 +82,7 @@ static void material(uint64_t m)
     hashed_len += put(hashed + hashed_len, s, z.s_len);
     memcpy(hashed + hashed_len, k, k_len);
     hashed_len += k_len;
+    hash_of(hashed, hashed_len, NULL, 0, h_due);
 }
 
 /* What start and take_secret are handed: the right inputs, of which a test changes one. */
@@ -84,8 +96,8 @@ typedef struct {
     uint64_t given, x_count;
     const uint8_t *x;
     uint64_t x_len, kem;
-    const uint8_t *digest, *ks, *s;
-    uint64_t digest_len, ks_len, s_len;
+    const uint8_t *k_pq, *ks, *s;
+    uint64_t k_pq_len, ks_len, s_len;
 } outcome;
 
 static opening right_opening(uint64_t role)
@@ -97,14 +109,14 @@ static opening right_opening(uint64_t role)
 static outcome right_outcome(void)
 {
     outcome o = {1, z.x_len, x, z.x_len, z.hybrid ? CASTULFRISA_KEM_DONE : CASTULFRISA_KEM_ABSENT,
-                 digest, ks, s, z.hybrid ? z.digest_len : 0, ks_len, z.s_len};
+                 k_pq, ks, s, z.hybrid ? CASTULFRISA_K_PQ_SIZE : 0u, ks_len, z.s_len};
     return o;
 }
 
 /* ---- the calls, with the right inputs, an exchange of e and a room of r bytes */
 
 static uint64_t told[8]; /* what they tell, and numbers behind it that are not theirs */
-static uint8_t out[CASTULFRISA_REPLY + 1], k_out[CASTULFRISA_K + 1];
+static uint8_t out[CASTULFRISA_REPLY + 1], k_out[CASTULFRISA_K + 1], h[CASTULFRISA_H_SIZE + 1];
 
 typedef uint64_t (*call)(side *a, uint64_t e, uint64_t r);
 
@@ -116,8 +128,8 @@ static uint64_t start(side *a, const opening *o)
 
 static uint64_t give(side *a, uint64_t e, uint64_t r, const outcome *o)
 {
-    return castulfrisa_take_secret(a->exchange, e, a->room, r, o->given, o->x_count, o->x, o->x_len, o->kem, o->digest, o->digest_len,
-                                   o->ks, o->ks_len, o->s, o->s_len, told);
+    return castulfrisa_take_secret(a->exchange, e, a->room, r, o->given, o->x_count, o->x, o->x_len, o->kem, o->k_pq, o->k_pq_len,
+                                   o->ks, o->ks_len, o->s, o->s_len, told, h);
 }
 
 static uint64_t own_c(side *a, uint64_t e, uint64_t r)
@@ -188,14 +200,16 @@ static void before(const side *a)
     memset(told, FILL, sizeof told);
     memset(out, FILL, sizeof out);
     memset(k_out, FILL, sizeof k_out);
+    memset(h, FILL, sizeof h);
 }
 
 static int numbers_told(size_t numbers) { return all(told + numbers, FILL, sizeof told - 8 * numbers); }
 
-/* So many numbers were told, all of them 0, and outputs are as they were. */
-static int told_nothing(size_t numbers)
+/* So many numbers were told, all of them 0, and outputs are as they were; but H is zeros where the call hands it out. */
+static int told_nothing(size_t numbers, int hands_h)
 {
-    return all(told, 0, 8 * numbers) && numbers_told(numbers) && all(out, FILL, sizeof out) && all(k_out, FILL, sizeof k_out);
+    return all(told, 0, 8 * numbers) && numbers_told(numbers) && all(out, FILL, sizeof out) && all(k_out, FILL, sizeof k_out)
+        && all(h, hands_h ? 0 : FILL, CASTULFRISA_H_SIZE) && h[CASTULFRISA_H_SIZE] == FILL;
 }
 
 static int same_room(const side *a) { return memcmp(a->room, was.room, sizeof was.room) == 0; }
@@ -227,6 +241,8 @@ static int holds_k(const side *a)
 
 static int k_is_out(void) { return memcmp(k_out, k, CASTULFRISA_K) == 0 && k_out[CASTULFRISA_K] == FILL; }
 
+static int refusal_told(size_t i) { return told_nothing(calls[i].numbers, calls[i].make == take_secret); }
+
 /* Every call but those that are due is answered 1, and nothing changes. */
 static void answered_1(side *a, uint64_t e, uint64_t r, call due, const char *what)
 {
@@ -234,7 +250,7 @@ static void answered_1(side *a, uint64_t e, uint64_t r, call due, const char *wh
     for (i = 0; i < COUNT(calls); i++)
         if (calls[i].due != due) {
             before(a);
-            is(calls[i].make(a, e, r) == CASTULFRISA_NOT_DUE && told_nothing(calls[i].numbers) && same(a), what);
+            is(calls[i].make(a, e, r) == CASTULFRISA_NOT_DUE && refusal_told(i) && same(a), what);
         }
 }
 
@@ -251,23 +267,25 @@ static void only(side *a, call due)
     for (i = 0; i < COUNT(calls); i++)
         if (calls[i].due == due) {
             before(a);
-            is(calls[i].make(a, EX, ROOM - 1) == CASTULFRISA_SHORT_ROOM && told_nothing(calls[i].numbers) && same(a), "3");
+            is(calls[i].make(a, EX, ROOM - 1) == CASTULFRISA_SHORT_ROOM && refusal_told(i) && same(a), "3");
         }
 }
 
 /* A call that is refused, and changes nothing. */
-#define REFUSED(a, numbers, number, made, what) do { \
+#define REFUSED(a, numbers, number, made, what) REFUSED_H(a, numbers, 0, number, made, what)
+#define REFUSED_H(a, numbers, hands_h, number, made, what) do { \
     before(a); \
-    is((made) == (number) && told_nothing(numbers) && same(a), what); } while (0)
+    is((made) == (number) && told_nothing(numbers, hands_h) && same(a), what); } while (0)
 
 /* A call on a copy of a side, `at`, that is a peer's fault: the room is zeros, of the exchange role, method and number are left, outputs
    stay, and it has ended for good. */
-#define FAULT(a, role, numbers, number, made, what) do { \
+#define FAULT(a, role, numbers, number, made, what) FAULT_H(a, role, numbers, 0, number, made, what)
+#define FAULT_H(a, role, numbers, hands_h, number, made, what) do { \
     static side copy; \
     side *at = &copy; \
     copy = *(a); \
     before(at); \
-    is((made) == (number) && told_nothing(numbers), what); \
+    is((made) == (number) && told_nothing(numbers, hands_h), what); \
     faulted(at, role, number, what); } while (0)
 
 static void faulted(side *a, uint64_t role, uint64_t number, const char *what)
@@ -301,7 +319,11 @@ static void secret_refused(side *a, uint64_t role)
 #define WRONG(change, what) do { \
     o = right_outcome(); \
     change; \
-    REFUSED(a, 1, CASTULFRISA_BAD_INPUT, give(a, EX, ROOM, &o), what); } while (0)
+    REFUSED_H(a, 1, 1, CASTULFRISA_BAD_INPUT, give(a, EX, ROOM, &o), what); } while (0)
+#define ENDS(change, number, what) do { \
+    o = right_outcome(); \
+    change; \
+    FAULT_H(a, role, 1, 1, number, give(at, EX, ROOM, &o), what); } while (0)
 
     WRONG(o.x_count--, "4, the primitive gave less than is lent");
     WRONG(o.x_count += WIDE, "4, a wide count of X");
@@ -309,18 +331,23 @@ static void secret_refused(side *a, uint64_t role)
     WRONG((o.x_count++, o.x_len++), "4, X too long");
     WRONG((o.x_count--, o.x_len--), "4, X too short");
     WRONG((o.x_count = o.x_len = 0, o.x = NULL), "4, no X");
-    WRONG(o.digest_len++, "4, the digest too long");
+    WRONG(o.k_pq_len++, "4, K_PQ too long");
     for (i = 0; i < COUNT(no_kem); i++) WRONG(o.kem = no_kem[i], "4, no outcome of a KEM");
     if (z.hybrid) {
         WRONG(o.kem = CASTULFRISA_KEM_ABSENT, "4, no KEM in a hybrid");
-        WRONG(o.digest_len--, "4, the digest too short");
-        o = right_outcome();
-        o.kem = CASTULFRISA_KEM_FAILED;
-        o.digest_len = 0;
-        FAULT(a, role, 1, CASTULFRISA_KEM, give(at, EX, ROOM, &o), "17");
+        WRONG((o.kem = CASTULFRISA_KEM_ABSENT, o.k_pq_len = 0), "4, no KEM in a hybrid, and no K_PQ");
+        WRONG(o.k_pq_len--, "4, K_PQ too short");
+        WRONG(o.k_pq_len = 0, "4, no K_PQ where the KEM is done");
+        WRONG((o.given = 0, o.k_pq_len = 0), "4, no K_PQ where the KEM is done and the classical primitive failed");
+        WRONG(o.kem = CASTULFRISA_KEM_FAILED, "4, K_PQ where the KEM failed");
+        WRONG((o.given = 0, o.kem = CASTULFRISA_KEM_FAILED), "4, K_PQ where both failed");
+        ENDS((o.kem = CASTULFRISA_KEM_FAILED, o.k_pq_len = 0), CASTULFRISA_KEM, "17");
+        ENDS((o.given = 0, o.kem = CASTULFRISA_KEM_FAILED, o.k_pq_len = 0), CASTULFRISA_CLASSICAL, "16 ahead of 17");
     } else {
         WRONG(o.kem = CASTULFRISA_KEM_FAILED, "4, a KEM where there is none");
         WRONG(o.kem = CASTULFRISA_KEM_DONE, "4, a KEM where there is none");
+        WRONG((o.kem = CASTULFRISA_KEM_DONE, o.k_pq_len = CASTULFRISA_K_PQ_SIZE), "4, a KEM and K_PQ where there is none");
+        WRONG(o.k_pq_len = CASTULFRISA_K_PQ_SIZE, "4, K_PQ where there is no KEM");
     }
     if (role == CASTULFRISA_SERVER) {
         WRONG((o.ks = NULL, o.ks_len = 0), "4, no K_S");
@@ -333,31 +360,42 @@ static void secret_refused(side *a, uint64_t role)
     }
 #undef WRONG
 
-    /* every number but 1 says that the primitive failed, and X is not looked at */
-    for (i = 0; i < COUNT(no); i++) {
-        o = right_outcome();
-        o.given = no[i];
-        o.x_count = WIDE;
-        o.x = NULL;
-        o.x_len = o.digest_len = 0;
-        FAULT(a, role, 1, CASTULFRISA_CLASSICAL, give(at, EX, ROOM, &o), "16");
-    }
-    o = right_outcome();
-    o.x = zero;
-    if (z.zero_check) FAULT(a, role, 1, CASTULFRISA_CLASSICAL, give(at, EX, ROOM, &o), "16, X zero");
+    /* every number but 1 says that the primitive failed, and X is not looked at; K_PQ goes by the KEM alone */
+    for (i = 0; i < COUNT(no); i++)
+        ENDS((o.given = no[i], o.x_count = WIDE, o.x = NULL, o.x_len = 0), CASTULFRISA_CLASSICAL, "16");
+    if (z.zero_check) ENDS(o.x = zero, CASTULFRISA_CLASSICAL, "16, X zero");
     else {
+        o = right_outcome();
+        o.x = zero;
         copy = *a;
         is(give(&copy, EX, ROOM, &o) == 0 && state_is(&copy, CASTULFRISA_SECRET_DONE, 0, role, method), "a zero X where it is not refused");
+        is(memcmp(h, h_due, sizeof h_due) != 0, "and another H");
     }
+#undef ENDS
+}
+
+/* H is of the bytes that stand in the room, also of those that somebody wrote there in between. */
+static void secret_of_what_stands(const side *a)
+{
+    static side copy;
+    uint8_t digest[CASTULFRISA_H_SIZE];
+    copy = *a;
+    copy.room[started_len - 1] ^= 1;
+    is(take_secret(&copy, EX, ROOM) == 0 && told[0] == hashed_len, "a room that was written to");
+    hash_of(copy.room, hashed_len, NULL, 0, digest);
+    is(memcmp(h, digest, sizeof digest) == 0 && memcmp(h, h_due, sizeof h_due) != 0, "H of what stands there");
 }
 
 static void secret_taken(side *a, uint64_t role)
 {
     only(a, take_secret);
     secret_refused(a, role);
+    secret_of_what_stands(a);
     before(a);
     is(take_secret(a, EX, ROOM) == 0 && told[0] == hashed_len && numbers_told(1), "the secret, and the hash input's length");
     is(memcmp(a->room, hashed, hashed_len) == 0, "the hash input");
+    is(memcmp(h, h_due, sizeof h_due) == 0 && h[CASTULFRISA_H_SIZE] == FILL, "H");
+    is(all(h + z.digest_len, 0, CASTULFRISA_H_SIZE - z.digest_len) && !all(h, 0, z.digest_len), "zeros after its digest");
     is(memcmp(a->room + hashed_len, was.room + hashed_len, sizeof was.room - hashed_len) == 0, "the room behind it");
     is(state_is(a, CASTULFRISA_SECRET_DONE, 0, role, method) && a->exchange[EX] == FILL, "the state behind the secret");
     is(holds_k(a), "K in the exchange");

@@ -150,7 +150,7 @@ static void methods(void)
     }
     method = 0;
     is(value == CASTULFRISA_VALUE_MOST && x == CASTULFRISA_X_MOST, "the largest C or S, and X");
-    is(digest == CASTULFRISA_DIGEST_MOST && name == CASTULFRISA_METHOD_NAME_MOST, "the largest digest and name");
+    is(digest == CASTULFRISA_H_SIZE && name == CASTULFRISA_METHOD_NAME_MOST, "the largest digest and name");
 
     for (i = 0; i < COUNT(none); i++) {
         AGAIN(out);
@@ -411,6 +411,183 @@ static void choices(void)
     }
 }
 
+/* ---- hashes */
+
+#define HASH CASTULFRISA_HASH_SIZE
+#define DIGEST CASTULFRISA_H_SIZE
+#define TOTAL 1 /* where in a hash's bytes the eight of its total begin, and the eight of what waits; no host's business */
+#define WAITS 9
+
+/* A hash and a digest, a byte more each, which no call may touch. */
+static uint8_t hash[HASH + 1], digest[DIGEST + 1];
+static uint8_t fed[CASTULFRISA_HASH_MOST + 1];
+
+static const struct kind { uint64_t kind; const char *abc, *all; } kinds[] = {
+    {CASTULFRISA_SHA256,
+     "ba7816bf8f01cfea414140de5dae2223b00361a396177a9cb410ff61f20015ad",
+     "7d917fbd2cf49ddff9ad0a8706bba32d204e92e71d2e369c5a03d6af29278c9f"},
+    {CASTULFRISA_SHA384,
+     "cb00753f45a35e8bb5a03d699ac65007272c32ab0eded1631a8b605a43ff5bed8086072ba1e7cc2358baeca134c825a7",
+     "efec719c84acba157f057b3a8be4ab46d8d39b7f85dca15c051420621873dcdbf6b165d5061f55337fce615e1957e330"},
+    {CASTULFRISA_SHA512,
+     "ddaf35a193617abacc417349ae20413112e6fa4e89a97ea20a9eeee64b55d39a2192992a274fc1a836ba3c23a3feebbd454d4423643ce80e2a9ac94fa54ca49f",
+     "404431b1c0eac12729b20176c61b0e1c561b6b20d2ecbb7ee1126c361943d724d7c0814a8daf5c3a2a7d3e431a0aaf58c12f96d8c3370582b777fd375c3c972f"}};
+
+static void fresh(uint64_t kind)
+{
+    AGAIN(hash);
+    is(castulfrisa_hash_start(hash, HASH, kind) == 0 && hash[HASH] == FILL, "a hash");
+}
+
+/* A part fed and accepted. */
+static void feed(const uint8_t *part, uint64_t len)
+{
+    is(castulfrisa_hash_feed(hash, HASH, part, len) == 0 && hash[HASH] == FILL, "a part fed");
+}
+
+/* The digest of what was fed, zeros after it, and the hash as it was. */
+static void finish(uint64_t kind)
+{
+    uint8_t stood[sizeof hash];
+    memcpy(stood, hash, sizeof hash);
+    AGAIN(digest);
+    is(castulfrisa_hash_finish(hash, HASH, digest) == 0 && memcmp(hash, stood, sizeof hash) == 0, "a hash finished, which stays");
+    is(all(digest + kind, 0, DIGEST - kind) && digest[DIGEST] == FILL, "zeros after the digest");
+}
+
+static int digest_is(const char *hex)
+{
+    size_t i;
+    for (i = 0; hex[2 * i] != 0; i++)
+        if ("0123456789abcdef"[digest[i] >> 4] != hex[2 * i] || "0123456789abcdef"[digest[i] & 15] != hex[2 * i + 1]) return 0;
+    return 1;
+}
+
+/* What is no hash, or has another length: 4 for every part and for the digest, which becomes zeros; the bytes stay. */
+static void no_hash(uint64_t len, const char *what)
+{
+    uint8_t stood[sizeof hash];
+    memcpy(stood, hash, sizeof hash);
+    is(castulfrisa_hash_feed(hash, len, NULL, 0) == CASTULFRISA_BAD_INPUT, what);
+    is(castulfrisa_hash_feed(hash, len, fed, 1) == CASTULFRISA_BAD_INPUT, what);
+    is(castulfrisa_hash_feed(hash, len, fed, sizeof fed) == CASTULFRISA_BAD_INPUT, what);
+    AGAIN(digest);
+    is(castulfrisa_hash_finish(hash, len, digest) == CASTULFRISA_BAD_INPUT && all(digest, 0, DIGEST) && digest[DIGEST] == FILL, what);
+    is(memcmp(hash, stood, sizeof hash) == 0, "4: the bytes stay");
+}
+
+/* The message of len bytes, whole and in two parts: the same hash. */
+static void in_parts(uint64_t kind, uint64_t len)
+{
+    uint8_t whole[HASH];
+    uint64_t cut;
+    fresh(kind);
+    feed(fed, len);
+    memcpy(whole, hash, HASH);
+    for (cut = 0; cut <= len; cut += 31) {
+        fresh(kind);
+        feed(fed, cut);
+        feed(NULL, 0);
+        feed(fed + cut, len - cut);
+        is(memcmp(hash, whole, HASH) == 0, "two parts are the two joined");
+    }
+}
+
+static void digests(const struct kind *k)
+{
+    uint8_t chain[sizeof hash];
+    uint64_t len;
+    size_t i;
+    fresh(k->kind);
+    memcpy(chain, hash, sizeof hash);
+    feed(b("ab"), 2);
+    feed(b("c"), 1);
+    finish(k->kind);
+    is(digest_is(k->abc), "the digest of abc");
+    /* the digests of messages of 0 to 300 bytes, hashed one behind another: every tail that there is, twice */
+    for (i = 0; i < 300; i++) fed[i] = (uint8_t)(7 * i + 3);
+    for (len = 0; len <= 300; len++) {
+        in_parts(k->kind, len);
+        finish(k->kind);
+        memcpy(hash, chain, sizeof hash);
+        feed(digest, k->kind);
+        memcpy(chain, hash, sizeof hash);
+    }
+    finish(k->kind);
+    is(digest_is(k->all), "the digest of the digests of 301 messages");
+}
+
+/* 65,535, 65,536 and 65,537 bytes in all. */
+static void hash_most(uint64_t kind)
+{
+    uint8_t most[HASH];
+    fresh(kind);
+    memcpy(most, hash, HASH);
+    is(castulfrisa_hash_feed(hash, HASH, fed, sizeof fed) == CASTULFRISA_BAD_INPUT && memcmp(hash, most, HASH) == 0, "4, 65,537 at once");
+    feed(fed, CASTULFRISA_HASH_MOST - 1);
+    memcpy(most, hash, HASH);
+    is(castulfrisa_hash_feed(hash, HASH, fed, 2) == CASTULFRISA_BAD_INPUT && memcmp(hash, most, HASH) == 0, "4, 65,535 and 2");
+    feed(fed, 1);
+    memcpy(most, hash, HASH);
+    feed(NULL, 0);
+    is(castulfrisa_hash_feed(hash, HASH, fed, 1) == CASTULFRISA_BAD_INPUT && memcmp(hash, most, HASH) == 0, "4, 65,536 and 1");
+    finish(kind);
+}
+
+static void no_hashes(const struct kind *k)
+{
+    static const uint8_t none[] = {0, 1, 31, 33, 47, 49, 63, 65, 128, 255};
+    uint8_t good[HASH], of_good[DIGEST];
+    size_t i;
+    fresh(k->kind);
+    feed(fed, 100);
+    memcpy(good, hash, HASH);
+    no_hash(HASH - 1, "4, a hash of 208 bytes");
+    no_hash(HASH + 1, "4, a hash of 210 bytes");
+    no_hash(0, "4, a hash of no bytes");
+    for (i = 0; i < COUNT(none); i++) {
+        hash[0] = none[i];
+        no_hash(HASH, "4, no kind");
+    }
+    memcpy(hash, good, HASH);
+    finish(k->kind);
+    memcpy(of_good, digest, DIGEST);
+    for (i = TOTAL; i < WAITS + 8; i++) {
+        hash[i] ^= 1;
+        if (i == TOTAL + 6) finish(k->kind); /* a total moved by 256 is moved by whole blocks, and fits */
+        else no_hash(HASH, "4, a total or a number of waiting bytes that does not fit");
+        is(i != TOTAL + 6 || memcmp(digest, of_good, DIGEST) != 0, "the recorded total is in the digest");
+        hash[i] ^= 1;
+    }
+    finish(k->kind);
+    is(memcmp(digest, of_good, DIGEST) == 0, "the same digest again");
+    castulfrisa_wipe(hash, HASH);
+    no_hash(HASH, "4, a wiped hash");
+}
+
+static void hashes(void)
+{
+    static const uint64_t none[] = {0, 1, 31, 33, 47, 63, 65, 255, 256 + 32, WIDE, WIDE + 32, WIDE + 48, WIDE + 64, UINT64_MAX};
+    size_t i;
+    for (i = 0; i < COUNT(kinds); i++) {
+        digests(&kinds[i]);
+        hash_most(kinds[i].kind);
+        no_hashes(&kinds[i]);
+    }
+    /* no kind: what stands there then is none; another length: the bytes stay */
+    for (i = 0; i < COUNT(none); i++) {
+        AGAIN(hash);
+        is(castulfrisa_hash_start(hash, HASH, none[i]) == CASTULFRISA_BAD_INPUT && all(hash, 0, HASH) && hash[HASH] == FILL, "4, no kind");
+        no_hash(HASH, "4, a hash of no kind");
+        AGAIN(hash);
+        is(castulfrisa_hash_start(hash, HASH - 1, none[i]) == CASTULFRISA_BAD_INPUT && all(hash, FILL, sizeof hash), "4, no kind in 208");
+    }
+    AGAIN(hash);
+    is(castulfrisa_hash_start(hash, HASH - 1, CASTULFRISA_SHA256) == CASTULFRISA_BAD_INPUT, "4, a start in 208 bytes");
+    is(castulfrisa_hash_start(hash, HASH + 1, CASTULFRISA_SHA256) == CASTULFRISA_BAD_INPUT, "4, a start in 210 bytes");
+    is(castulfrisa_hash_start(NULL, 0, CASTULFRISA_SHA256) == CASTULFRISA_BAD_INPUT && all(hash, FILL, sizeof hash), "4, a start in none");
+}
+
 /* ---- sentences */
 
 static void sentences(void)
@@ -443,6 +620,7 @@ int main(void)
     bad_lists();
     opened_lists();
     choices();
+    hashes();
     sentences();
     exchanges();
     puts(failed ? "failed" : "ok");

@@ -30,7 +30,7 @@ void ignore(uint8_t *p, uint64_t n, uint64_t *count, castulfrisa_part *part, cas
     castulfrisa_own_c(p, n, p, n, p, n, p, n, count);
     castulfrisa_read_init(p, n, p, n, p, n, part);
     castulfrisa_read_reply(p, n, p, n, p, n, &reply);
-    castulfrisa_take_secret(p, n, p, n, n, n, p, n, n, p, n, p, n, p, n, count);
+    castulfrisa_take_secret(p, n, p, n, n, n, p, n, n, p, n, p, n, p, n, count, p);
     castulfrisa_sign(p, n, p, n, p, n, p, n, p, n, &counts);
     castulfrisa_verdict(p, n, p, n, n, n, p, n, count);
     castulfrisa_init_c(p, n, p, n, p, n, part);
@@ -38,6 +38,9 @@ void ignore(uint8_t *p, uint64_t n, uint64_t *count, castulfrisa_part *part, cas
     castulfrisa_reply_s(p, n, p, n, p, n, part);
     castulfrisa_reply_signature(p, n, p, n, p, n, part);
     castulfrisa_state(p, n, &told);
+    castulfrisa_hash_start(p, n, n);
+    castulfrisa_hash_feed(p, n, p, n);
+    castulfrisa_hash_finish(p, n, p);
     castulfrisa_version();
     castulfrisa_join(lists, p, n, count);
     castulfrisa_text(n);

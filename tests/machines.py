@@ -1,5 +1,5 @@
 """The machines that the library is compiled for, as the scripts beside this one use them: C programs with it compiled and run, and what of it a
-client, a server and both carry.
+client, a server, both and a program that only hashes carry.
 
 x86-64 runs itself. Debian's cross compilers make programs for the others, linked statically, and qemu runs them, a Linux program each.
 There is no Linux for a cortex-m3, and no board here: its archive goes into a program for armv7, which has all of its instructions and calls by
@@ -16,7 +16,7 @@ import tempfile
 from held import ROOT
 
 WARN = ['-Wall', '-Wextra', '-Werror', '-pedantic', '-O2', f'-I{ROOT}/include']
-ROLES = {'client': 1, 'server': 2, 'both': 3}
+ROLES = {'client': 1, 'server': 2, 'both': 3, 'a hash alone': 4}
 VARIANTS = {'speed': 'libcastulfrisa.a', 'small': 'libcastulfrisa-small.a'}
 
 
@@ -99,8 +99,8 @@ class Carried:
 
 
 def table(measured):
-    """Rows of a machine and variant: code and constants, and the deepest stack, of a client, a server and both."""
-    yield '| .text + .rodata, deepest stack | client | server | both |'
-    yield '|---|---|---|---|'
+    """Rows of a machine and variant: code and constants, and the deepest stack, of a client, a server and both, and of what only hashes."""
+    yield '| .text + .rodata, deepest stack | ' + ' | '.join(ROLES) + ' |'
+    yield '|---' * (1 + len(ROLES)) + '|'
     for (machine, variant), roles in measured.items():
         yield f'| {machine}, {variant} | ' + ' | '.join(f'{c.text:,} + {c.rodata:,}, {c.stack:,}' for c in roles.values()) + ' |'

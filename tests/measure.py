@@ -14,7 +14,8 @@ sys.dont_write_bytecode = True
 from machines import MACHINES, ROLES, VARIANTS, Carried, table
 
 LARGEST = 12
-WORK = {'1': ('method 1', 10, 1000), '8': ('method 8', 10, 1000), 'choice': ('the choice that searches longest', 1, 1)}
+WORK = {'1': ('method 1, H included', 10, 1000), '8': ('method 8, H included', 10, 1000), 'sha256': ('SHA-256 over 16 KiB', 1, 100),
+        'sha512': ('SHA-512 over 16 KiB', 1, 100), 'choice': ('the choice that searches longest', 1, 1)}
 
 
 def largest(measured):
@@ -27,9 +28,9 @@ def largest(measured):
 
 
 def memory(said):
-    room, exchange, k, init, reply = map(int, re.search(r'^sizes (\d+) (\d+) (\d+) (\d+) (\d+)$', said, re.M).groups())
-    both = room + exchange + k
-    return (f'RAM of a session: room {room:,}; exchange {exchange}; K output {k}; output for INIT {init:,} (client) or REPLY {reply:,} (server); '
+    room, exchange, k, h, init, reply = map(int, re.search(r'^sizes (\d+) (\d+) (\d+) (\d+) (\d+) (\d+)$', said, re.M).groups())
+    both = room + exchange + k + h
+    return (f'RAM of a session: room {room:,}; exchange {exchange}; K output {k}; H {h}; output for INIT {init:,} (client) or REPLY {reply:,} (server); '
             f'in all {both + init:,} for a client and {both + reply:,} for a server, beside payloads and stack.')
 
 

@@ -1,5 +1,5 @@
-/* What the calls leave of the shared secret on the stack below their caller, how deep each goes, and that castulfrisa_wipe_stack leaves
-   nothing of it. The stack is painted, a call is made, and what stands below is looked at without another call in between. Not for the
+/* What the calls leave of the shared secrets on the stack below their caller, how deep each goes, and that castulfrisa_wipe_stack leaves
+   nothing of them. The stack is painted, a call is made, and what stands below is looked at without another call in between. Not for the
    sanitizers: they lay out the stack in their own way. */
 #include "castulfrisa.h"
 #include <stdio.h>
@@ -39,7 +39,8 @@ static inline __attribute__((always_inline)) void look(uint8_t *to)
 
 static uint64_t method;
 static castulfrisa_sizes z;
-static uint8_t x[CASTULFRISA_X_MOST], digest[CASTULFRISA_DIGEST_MOST];
+static uint8_t x[CASTULFRISA_X_MOST], k_pq[CASTULFRISA_K_PQ_SIZE];
+static uint8_t digest[CASTULFRISA_H_SIZE]; /* of K_PQ and X: a hybrid's K */
 
 static int piece_of(const uint8_t *at, const uint8_t *secret, size_t len)
 {
@@ -47,6 +48,21 @@ static int piece_of(const uint8_t *at, const uint8_t *secret, size_t len)
     for (i = 0; i + PIECE <= len; i++)
         if (at[0] == secret[i] && memcmp(at, secret + i, PIECE) == 0) return 1;
     return 0;
+}
+
+static int piece_of_any(const uint8_t *at)
+{
+    return piece_of(at, x, z.x_len) || piece_of(at, k_pq, sizeof k_pq) || piece_of(at, digest, z.digest_len);
+}
+
+/* A hash reads words with the high byte first, and this machine keeps them the other way round: pieces of a secret are also those that are one
+   when each of their words is turned. */
+static int turned_piece(const uint8_t *at, size_t word)
+{
+    uint8_t turned[PIECE];
+    size_t i;
+    for (i = 0; i < PIECE; i++) turned[i] = at[i / word * word + word - 1 - i % word];
+    return piece_of_any(turned);
 }
 
 /* So many bytes of paint are no piece of a secret, and nearly all of the stack: an emulator takes long to compare them with each. */
@@ -58,13 +74,13 @@ static int painted(const uint8_t *at)
     return 1;
 }
 
-/* Copies of X or of the digest, whole or in part, and the bytes in them. */
+/* Copies of X, K_PQ or the digest of both, whole or in part, and the bytes in them. */
 static size_t copies(const uint8_t *stack, size_t *bytes)
 {
     size_t i, count = 0, end = 0; /* of the copy that was seen last */
     *bytes = 0;
     for (i = 0; i + PIECE <= DEPTH; i++)
-        if (!painted(stack + i) && (piece_of(stack + i, x, z.x_len) || piece_of(stack + i, digest, z.digest_len))) {
+        if (!painted(stack + i) && (piece_of_any(stack + i) || turned_piece(stack + i, 4) || turned_piece(stack + i, 8))) {
             if (i >= end) {
                 count++;
                 end = i;
@@ -77,11 +93,11 @@ static size_t copies(const uint8_t *stack, size_t *bytes)
 
 /* ---- what was seen of each call, over all methods */
 
-enum { SECRET_CLIENT, SECRET_SERVER, SIGN, VERDICT, VERDICT_NO, NOT_DUE, STATE, SHALLOW, DEEP, CALLS };
+enum { SECRET_CLIENT, SECRET_SERVER, SIGN, VERDICT, VERDICT_NO, NOT_DUE, STATE, FEED, FINISH, SHALLOW, DEEP, CALLS };
 static struct { const char *name; size_t copies, bytes, depth, wiped; } seen[CALLS] = {
     {"take_secret, client", 0, 0, 0, 0}, {"take_secret, server", 0, 0, 0, 0}, {"sign", 0, 0, 0, 0}, {"verdict", 0, 0, 0, 0},
-    {"verdict, refused", 0, 0, 0, 0}, {"a step not due", 0, 0, 0, 0}, {"state", 0, 0, 0, 0}, {"planted", 0, 0, 0, 0},
-    {"planted too deep", 0, 0, 0, 0}};
+    {"verdict, refused", 0, 0, 0, 0}, {"a step not due", 0, 0, 0, 0}, {"state", 0, 0, 0, 0}, {"hash_feed", 0, 0, 0, 0},
+    {"hash_finish", 0, 0, 0, 0}, {"planted", 0, 0, 0, 0}, {"planted too deep", 0, 0, 0, 0}};
 
 static size_t larger(size_t a, size_t b) { return a > b ? a : b; }
 
@@ -113,15 +129,41 @@ static void note(int call, int held)
 
 static uint8_t exchange[EX], room[ROOM], other_exchange[EX], other_room[ROOM];
 static uint8_t payload[CASTULFRISA_REPLY], value[CASTULFRISA_VALUE_MOST], out[CASTULFRISA_REPLY], k[CASTULFRISA_K];
+static uint8_t h[CASTULFRISA_H_SIZE], hash[CASTULFRISA_HASH_SIZE];
 static uint64_t payload_len, count;
 static castulfrisa_signed counts;
 static castulfrisa_progress told;
 
 static NOINLINE void secret(int call)
 {
-    uint64_t kem = z.hybrid ? CASTULFRISA_KEM_DONE : CASTULFRISA_KEM_ABSENT, digest_len = z.hybrid ? z.digest_len : 0;
-    OBSERVE(call, castulfrisa_take_secret(exchange, EX, room, ROOM, 1, z.x_len, x, z.x_len, kem, digest, digest_len, value, 9, value,
-                                          z.s_len, &count) == 0);
+    uint64_t kem = z.hybrid ? CASTULFRISA_KEM_DONE : CASTULFRISA_KEM_ABSENT, k_pq_len = z.hybrid ? sizeof k_pq : 0;
+    OBSERVE(call, castulfrisa_take_secret(exchange, EX, room, ROOM, 1, z.x_len, x, z.x_len, kem, k_pq, k_pq_len, value, 9, value, z.s_len,
+                                          &count, h) == 0);
+}
+
+/* K_PQ and X hashed as a host may hash them: what waits goes into a block with what comes. */
+static NOINLINE void feed(void)
+{
+    OBSERVE(FEED, castulfrisa_hash_feed(hash, sizeof hash, x, z.x_len) == 0);
+}
+
+static NOINLINE void finish(void)
+{
+    OBSERVE(FINISH, castulfrisa_hash_finish(hash, sizeof hash, digest) == 0);
+}
+
+/* The digest is known first, so that its copies are seen: one of zeros would be seen everywhere. */
+static void hashed(void)
+{
+    int again;
+    for (again = 0; again < 2; again++) {
+        if (castulfrisa_hash_start(hash, sizeof hash, z.digest_len) != 0 || castulfrisa_hash_feed(hash, sizeof hash, k_pq, sizeof k_pq) != 0)
+            failed = 1;
+        if (again) feed();
+        else if (castulfrisa_hash_feed(hash, sizeof hash, x, z.x_len) != 0 || castulfrisa_hash_finish(hash, sizeof hash, digest) != 0)
+            failed = 1;
+    }
+    finish();
 }
 
 static NOINLINE void sign(void)
@@ -199,9 +241,10 @@ int main(void)
 
     memset(value, 4, sizeof value);
     for (i = 0; i < sizeof x; i++) x[i] = (uint8_t)((r = r * 1664525 + 1013904223) >> 24);
-    for (i = 0; i < sizeof digest; i++) digest[i] = (uint8_t)((r = r * 1664525 + 1013904223) >> 24);
+    for (i = 0; i < sizeof k_pq; i++) k_pq[i] = (uint8_t)((r = r * 1664525 + 1013904223) >> 24);
     for (method = 1; method <= 9; method++) {
         if (castulfrisa_method_sizes(method, &z) != 0) return 1;
+        hashed();
         started(CASTULFRISA_CLIENT);
         secret(SECRET_CLIENT);
         state();

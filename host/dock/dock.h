@@ -1,5 +1,5 @@
-/* dock: one SSH key exchange over a socket, as client or as server. The core (castulfrisa.h) reads and writes the messages and
-   builds the hash input; libcrypto does curves, digests and signatures; here are the sockets, packets and files around them. */
+/* dock: one SSH key exchange over a socket, as client or as server. The core (castulfrisa.h) reads and writes the messages, builds the hash
+   input and hashes it; libcrypto does curves, KEMs and signatures; here are the sockets, packets and files around them. */
 #ifndef DOCK_H
 #define DOCK_H
 
@@ -74,12 +74,13 @@ bool peer_fault(struct link *l, const char *format, ...);
 
 void link_close(struct link *l);
 
-/* ---- primitives.c: ephemeral keys, X and digests of methods 1 to 6 */
+/* ---- primitives.c: ephemeral keys, X and K_PQ */
 
+/* Methods 7 to 9 where libcrypto has their KEM. */
 bool makes_method(uint64_t method);
 
 /* A new key pair; its public value as it goes on the wire, whose length the core judges. */
-bool draw_ephemeral(uint64_t method, EVP_PKEY **own, uint8_t c[CASTULFRISA_VALUE_MOST], size_t *c_len);
+bool draw_ephemeral(uint64_t method, EVP_PKEY **own, uint8_t *out, size_t room, size_t *len);
 
 /* The peer's public value; NULL for one that is no point of the curve. */
 EVP_PKEY *peer_public(EVP_PKEY *own, span value);
@@ -87,9 +88,13 @@ EVP_PKEY *peer_public(EVP_PKEY *own, span value);
 /* X, and how many bytes of it the primitive gave, which the core judges; false where it fails. */
 bool derive_x(EVP_PKEY *own, EVP_PKEY *peer, uint8_t x[CASTULFRISA_X_MOST], size_t *x_count);
 
-bool exchange_hash(uint64_t method, const uint8_t *input, size_t len, uint8_t h[CASTULFRISA_DIGEST_MOST], size_t *h_len);
+/* The KEM of methods 7 to 9: a client's key pair, likewise; a server's ciphertext for a client's key, of just so many bytes; and K_PQ, with how
+   many bytes of it there are, which the core judges. False where it fails. */
+bool draw_kem(uint64_t method, EVP_PKEY **own, uint8_t *out, size_t room, size_t *len);
+bool encapsulate(uint64_t method, span key, uint8_t *out, size_t room, uint8_t k_pq[CASTULFRISA_K_PQ_SIZE], size_t *k_pq_len);
+bool decapsulate(EVP_PKEY *own, span ciphertext, uint8_t k_pq[CASTULFRISA_K_PQ_SIZE], size_t *k_pq_len);
 
-/* Clears the stack below the caller as deep as libcrypto may have gone with X and K, which castulfrisa_wipe_stack does not know. */
+/* Clears the stack below the caller as deep as libcrypto may have gone with X and K_PQ, which castulfrisa_wipe_stack does not know. */
 void wipe_stack(void);
 
 /* ---- hostkey.c: host keys and their signatures over H */

@@ -28,11 +28,12 @@ struct kex {
     uint8_t room[CASTULFRISA_ROOM];
     uint64_t filled; /* how far the fields fill the room, for --show */
 
-    EVP_PKEY *own, *peer; /* ephemeral */
-    uint8_t c[CASTULFRISA_VALUE_MOST]; /* own public value: C of a client, S of a server */
+    EVP_PKEY *own, *peer, *own_kem; /* ephemeral */
+    uint8_t c[CASTULFRISA_VALUE_MOST]; /* own public value: C of a client, S of a server; of a hybrid the KEM's part first */
     size_t c_len;
-    uint8_t x[CASTULFRISA_X_MOST], k[CASTULFRISA_K], h[CASTULFRISA_DIGEST_MOST];
-    size_t x_count, h_len;
+    uint64_t kem; /* enum castulfrisa_kem */
+    uint8_t x[CASTULFRISA_X_MOST], k_pq[CASTULFRISA_K_PQ_SIZE], k[CASTULFRISA_K], h[CASTULFRISA_H_SIZE];
+    size_t x_count, k_pq_len;
 };
 
 #define EXCHANGE(k) (k)->exchange, sizeof (k)->exchange, (k)->room, sizeof (k)->room
@@ -156,7 +157,7 @@ static bool print_results(const struct kex *k, const char *print, enum known kno
     printf("method %u %.*s\n", (unsigned)k->method, (int)name_len, (const char *)name);
     printf("host key %s %s\n", k->scheme->name, print);
     if (k->role == CASTULFRISA_CLIENT) printf("known %s\n", known == KNOWN_YES ? "yes" : "not asked");
-    print_hex("H", k->h, k->h_len);
+    print_hex("H", k->h, (size_t)k->sizes.digest_len);
     print_hex("X begins", k->x, 2);
     puts("NEWKEYS sent and received");
     return fflush(stdout) == 0 || trouble("standard output cannot be written");
@@ -177,24 +178,22 @@ static bool read_reply(struct kex *k, span *host_key, span *s, span *signature)
     return accepted(k, "REPLY", shown(k, "<-", "REPLY", reply.len, number, k->filled + 4 + parts.host_key.len + 4 + parts.s.len));
 }
 
-/* Hands the core what the primitives gave, and hashes what it built. From here on every call leaves K below it, accepted or not: it is
-   wiped before anything else is done. */
+/* Hands the core what the primitives gave, and gets H. From here on every call leaves K below it, accepted or not: it is wiped before
+   anything else is done. */
 static bool take_secret(struct kex *k, bool given, span host_key, span s)
 {
-    uint64_t count;
-    uint64_t number = castulfrisa_take_secret(EXCHANGE(k), given, k->x_count, k->x, k->sizes.x_len, CASTULFRISA_KEM_ABSENT, NULL, 0,
-                                              host_key.at, host_key.len, s.at, s.len, &count);
+    uint64_t count, k_pq_len = k->kem == CASTULFRISA_KEM_DONE ? k->k_pq_len : 0;
+    uint64_t number = castulfrisa_take_secret(EXCHANGE(k), given, k->x_count, k->x, k->sizes.x_len, k->kem, k->k_pq, k_pq_len, host_key.at,
+                                              host_key.len, s.at, s.len, &count, k->h);
     castulfrisa_wipe_stack();
-    if (!accepted(k, "secret", shown(k, "", "secret", NO_MESSAGE, number, count))) return false;
-    return (exchange_hash(k->method, k->room, (size_t)count, k->h, &k->h_len) && k->h_len == k->sizes.digest_len)
-        || trouble("no digest for the exchange hash");
+    return accepted(k, "secret", shown(k, "", "secret", NO_MESSAGE, number, count));
 }
 
 /* The verdict: both answers in, K out. The line says which of the two failed. */
 static bool give_verdict(struct kex *k, span host_key, span signature, const char *print, enum known *known)
 {
     const struct settings *set = k->set;
-    bool holds = signature_holds(k->scheme, host_key, signature, k->h, k->h_len);
+    bool holds = signature_holds(k->scheme, host_key, signature, k->h, (size_t)k->sizes.digest_len);
     if (set->known_hosts != NULL) *known = known_host(set->known_hosts, set->host, set->port, k->scheme->key_type, host_key);
     bool trusted = *known == KNOWN_NOT_ASKED || *known == KNOWN_YES;
 
@@ -208,6 +207,26 @@ static bool give_verdict(struct kex *k, span host_key, span signature, const cha
                       castulfrisa_text(number));
 }
 
+/* Own C: the public value, in a hybrid behind the KEM's key. */
+static bool draw_c(struct kex *k)
+{
+    size_t kem_len = 0, len;
+    if (k->sizes.hybrid == 1 && !draw_kem(k->method, &k->own_kem, k->c, sizeof k->c, &kem_len)) return trouble("no KEM key");
+    if (!draw_ephemeral(k->method, &k->own, k->c + kem_len, sizeof k->c - kem_len, &len)) return trouble("no ephemeral key");
+    k->c_len = kem_len + len;
+    return true;
+}
+
+/* X and K_PQ from S. */
+static bool derive_from_s(struct kex *k, span s)
+{
+    size_t kem_len = (size_t)k->sizes.s_classical;
+    if (k->sizes.hybrid == 1)
+        k->kem = decapsulate(k->own_kem, (span){s.at, kem_len}, k->k_pq, &k->k_pq_len) ? CASTULFRISA_KEM_DONE : CASTULFRISA_KEM_FAILED;
+    k->peer = peer_public(k->own, (span){s.at + kem_len, s.len - kem_len});
+    return k->peer != NULL && derive_x(k->own, k->peer, k->x, &k->x_count);
+}
+
 static bool client(struct kex *k)
 {
     uint8_t init[CASTULFRISA_INIT];
@@ -217,15 +236,14 @@ static bool client(struct kex *k)
     const span none = {NULL, 0};
 
     if (!exchange_versions(k) || !negotiate(k)) return false;
-    if (!draw_ephemeral(k->method, &k->own, k->c, &k->c_len)) return trouble("no ephemeral key");
+    if (!draw_c(k)) return false;
     uint64_t init_len;
     uint64_t number = castulfrisa_own_c(EXCHANGE(k), k->c, k->c_len, init, sizeof init, &init_len);
     shown(k, "->", "INIT", init_len, number, k->filled + 4 + k->c_len);
     if (!accepted(k, "own C", number) || !link_send(&k->link, init, (size_t)init_len)) return false;
 
     if (!read_reply(k, &host_key, &s, &signature)) return false;
-    k->peer = peer_public(k->own, s);
-    bool given = k->peer != NULL && derive_x(k->own, k->peer, k->x, &k->x_count);
+    bool given = derive_from_s(k, s);
     if (!take_secret(k, given, none, none)) return false;
 
     if (!fingerprint(host_key, print)) return trouble("no digest for the fingerprint");
@@ -241,13 +259,24 @@ static const struct host_key *chosen_key(const struct kex *k)
     return NULL;
 }
 
+/* K_PQ, and the KEM's part of S, in a hybrid. Where it fails, S has zeros there: the core wants it in its form all the same. */
+static void answer_kem(struct kex *k, span key)
+{
+    size_t len = (size_t)k->sizes.s_classical;
+    if (k->sizes.hybrid != 1) return;
+    k->kem = encapsulate(k->method, key, k->c, len, k->k_pq, &k->k_pq_len) ? CASTULFRISA_KEM_DONE : CASTULFRISA_KEM_FAILED;
+    if (k->kem != CASTULFRISA_KEM_DONE) memset(k->c, 0, len);
+}
+
 /* Draws until X begins as asked, which is the first draw where nothing is asked. given: whether the primitive gave X. */
 static bool draw_against(struct kex *k, span c, bool *given)
 {
     const struct settings *set = k->set;
+    size_t kem_len = (size_t)k->sizes.s_classical, len;
     for (long draws = 0; draws < DRAWS_MOST; draws++) {
         EVP_PKEY_free(k->own);
-        if (!draw_ephemeral(k->method, &k->own, k->c, &k->c_len)) return trouble("no ephemeral key");
+        if (!draw_ephemeral(k->method, &k->own, k->c + kem_len, sizeof k->c - kem_len, &len)) return trouble("no ephemeral key");
+        k->c_len = kem_len + len;
         if (k->peer == NULL) k->peer = peer_public(k->own, c);
         *given = k->peer != NULL && derive_x(k->own, k->peer, k->x, &k->x_count);
         if (!*given || memcmp(k->x, set->x_begins, set->x_begins_len) == 0) return true;
@@ -255,7 +284,7 @@ static bool draw_against(struct kex *k, span c, bool *given)
     return trouble("no X in %ld draws begins as asked", DRAWS_MOST);
 }
 
-/* INIT comes in; own S and X are made from its C. */
+/* INIT comes in; own S, X and K_PQ are made from its C. */
 static bool read_init(struct kex *k, bool *given)
 {
     span init;
@@ -263,7 +292,10 @@ static bool read_init(struct kex *k, bool *given)
     castulfrisa_part c;
     uint64_t number = castulfrisa_read_init(EXCHANGE(k), init.at, init.len, &c);
     if (!accepted(k, "INIT", shown(k, "<-", "INIT", init.len, number, k->filled + 4 + c.len))) return false;
-    bool drawn = draw_against(k, part_of(init, c), given);
+    span value = part_of(init, c);
+    size_t kem_len = (size_t)k->sizes.c_classical;
+    answer_kem(k, (span){value.at, kem_len});
+    bool drawn = draw_against(k, (span){value.at + kem_len, value.len - kem_len}, given);
     if (k->set->x_begins_len > 0) link_restart_clock(&k->link); /* long drawing is not the peer's delay */
     return drawn;
 }
@@ -272,7 +304,7 @@ static bool send_reply(struct kex *k, const struct host_key *key)
 {
     uint8_t signature[CASTULFRISA_BLOB_MOST], reply[CASTULFRISA_REPLY];
     size_t signature_len;
-    if (!sign_hash(key, k->scheme, k->h, k->h_len, signature, &signature_len)) return trouble("the host key does not sign");
+    if (!sign_hash(key, k->scheme, k->h, (size_t)k->sizes.digest_len, signature, &signature_len)) return trouble("the host key does not sign");
     castulfrisa_signed counts;
     uint64_t number = castulfrisa_sign(EXCHANGE(k), signature, signature_len, reply, sizeof reply, k->k, sizeof k->k, &counts);
     castulfrisa_wipe_stack();
@@ -300,6 +332,7 @@ static void kex_end(struct kex *k)
 {
     EVP_PKEY_free(k->own);
     EVP_PKEY_free(k->peer);
+    EVP_PKEY_free(k->own_kem);
     link_close(&k->link);
     castulfrisa_wipe((uint8_t *)k, sizeof *k);
 }

@@ -50,11 +50,12 @@ enum known known_host(FILE *file, const char *host, const char *port, const char
 
 bool fingerprint(span host_key, char out[FINGERPRINT])
 {
-    uint8_t digest[32];
-    size_t len = 0;
-    if (EVP_Q_digest(NULL, "SHA256", NULL, host_key.at, host_key.len, digest, &len) != 1) return false;
+    uint8_t hash[CASTULFRISA_HASH_SIZE], digest[CASTULFRISA_H_SIZE];
+    if (castulfrisa_hash_start(hash, sizeof hash, CASTULFRISA_SHA256) != CASTULFRISA_OK
+        || castulfrisa_hash_feed(hash, sizeof hash, host_key.at, host_key.len) != CASTULFRISA_OK
+        || castulfrisa_hash_finish(hash, sizeof hash, digest) != CASTULFRISA_OK) return false;
     memcpy(out, "SHA256:", 7);
-    EVP_EncodeBlock((uint8_t *)out + 7, digest, (int)len);
+    EVP_EncodeBlock((uint8_t *)out + 7, digest, CASTULFRISA_SHA256);
     out[strcspn(out, "=")] = 0;
     return true;
 }

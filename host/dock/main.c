@@ -1,6 +1,7 @@
 /* The command line. */
 #include "dock.h"
 #include <errno.h>
+#include <openssl/crypto.h>
 #include <signal.h>
 #include <stdlib.h>
 #include <string.h>
@@ -8,6 +9,7 @@
 
 #define METHODS \
     "curve25519-sha256,curve25519-sha256@libssh.org,ecdh-sha2-nistp256,ecdh-sha2-nistp384,ecdh-sha2-nistp521,curve448-sha512"
+#define HYBRIDS "mlkem768x25519-sha256,mlkem768nistp256-sha256,mlkem1024nistp384-sha384"
 #define TIMEOUT 20
 
 enum { DONE = 0, FAILED = 1, USAGE = 2 };
@@ -23,6 +25,7 @@ static const char help[] =
     "  --known-hosts FILE  refuse a host key that FILE does not have for HOST ('host type base64' or '[host]:port type base64')\n"
     "  --methods NAME,..   key exchange methods in order of preference: curve25519-sha256, curve25519-sha256@libssh.org,\n"
     "                      curve448-sha512, ecdh-sha2-nistp256, ecdh-sha2-nistp384, ecdh-sha2-nistp521\n"
+    "%s"
     "  --host-keys NAME,.. host key names in order of preference: ssh-ed25519, ecdsa-sha2-nistp256, ecdsa-sha2-nistp384,\n"
     "                      ecdsa-sha2-nistp521, rsa-sha2-512, rsa-sha2-256\n"
     "  --host-key FILE     a private key, in PEM or OpenSSH form, without a passphrase\n"
@@ -31,6 +34,23 @@ static const char help[] =
     "  --show              print each message and step, the core's number for it, and how far the room is filled\n"
     "  --timeout SECONDS   what one connection may take (20)\n"
     "PORT 0 of a server is any free port; 'listening on PORT' is printed first.\n";
+
+/* Whether the libcrypto that runs has what the hybrids take beside a curve. */
+static bool has_hybrids(void)
+{
+    return makes_method(CASTULFRISA_MLKEM768_NISTP256_SHA256) && makes_method(CASTULFRISA_MLKEM1024_NISTP384_SHA384)
+        && makes_method(CASTULFRISA_MLKEM768_X25519_SHA256);
+}
+
+static int print_help(void)
+{
+    char hybrids[256];
+    if (has_hybrids()) snprintf(hybrids, sizeof hybrids, "                      and, ahead of these, " HYBRIDS "\n");
+    else
+        snprintf(hybrids, sizeof hybrids, "                      no hybrids: this libcrypto has no ML-KEM (%s; it is there from OpenSSL 3.5 on)\n",
+                 OpenSSL_version(OPENSSL_VERSION));
+    return printf(help, hybrids) < 0 || fflush(stdout) != 0 ? FAILED : DONE;
+}
 
 struct command {
     struct settings set;
@@ -199,7 +219,7 @@ static int run_server(struct command *c, char **arguments)
 
 int main(int count, char **arguments)
 {
-    static struct command c = {.set = {.methods = METHODS, .timeout = TIMEOUT}, .count = 1};
+    static struct command c = {.set = {.timeout = TIMEOUT}, .count = 1};
     int result;
 
     unsigned long version = castulfrisa_version();
@@ -208,7 +228,8 @@ int main(int count, char **arguments)
     signal(SIGPIPE, SIG_IGN); /* a reader of our output that went away is a failure like others */
     if (count < 2) return misused("client or server?", NULL);
     for (int i = 1; i < count; i++)
-        if (is_option(arguments[i], "--help")) return fputs(help, stdout) < 0 || fflush(stdout) != 0 ? FAILED : DONE;
+        if (is_option(arguments[i], "--help")) return print_help();
+    c.set.methods = has_hybrids() ? HYBRIDS "," METHODS : METHODS;
 
     if (is_option(arguments[1], "client")) result = run_client(&c, arguments + 2);
     else if (is_option(arguments[1], "server")) result = run_server(&c, arguments + 2);

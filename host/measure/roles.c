@@ -1,5 +1,5 @@
-/* One exchange with every field at its largest, as client (ROLE 1), as server (2) or as both (3), on a stack that was painted
-   before: prints how deep each entry went. Its link map tells what of the library a host of that role carries. */
+/* One exchange with every field at its largest, as client (ROLE 1), as server (2) or as both (3), or no more than a hash (4), on
+   a stack that was painted before: prints how deep each entry went. Its link map tells what of the library a host of that role carries. */
 #define _XOPEN_SOURCE 700
 #include "castulfrisa.h"
 #include <pthread.h>
@@ -11,20 +11,26 @@
 #define PAINT 0xd5
 
 static uint8_t stack[STACK] __attribute__((aligned(4096)));
+static uint64_t number; /* the last call's */
+
+#if ROLE & 3
 static uint8_t room[CASTULFRISA_ROOM], kexinit[CASTULFRISA_KEXINIT_MOST], version[CASTULFRISA_V_MOST], list[3999];
 static uint8_t init[CASTULFRISA_INIT], reply[CASTULFRISA_REPLY], k[CASTULFRISA_K];
-static uint8_t value[CASTULFRISA_VALUE_MOST], x[48], digest[48], ks[CASTULFRISA_BLOB_MOST], signature[CASTULFRISA_BLOB_MOST];
+static uint8_t value[CASTULFRISA_VALUE_MOST], x[48], k_pq[CASTULFRISA_K_PQ_SIZE], h[CASTULFRISA_H_SIZE];
+static uint8_t ks[CASTULFRISA_BLOB_MOST], signature[CASTULFRISA_BLOB_MOST];
 static uint8_t exchange[CASTULFRISA_EXCHANGE];
-static uint64_t init_len, reply_len, number; /* the last call's number */
+static uint64_t init_len, reply_len;
 
 #define EXCHANGE exchange, sizeof exchange, room, sizeof room
 
 static const uint8_t *b(const char *s) { return (const uint8_t *)s; }
+#endif
 
 /* ---- the calls, each on a stack of its own; the first is none, and shows what the thread itself takes */
 
 static void nothing(void) {}
 
+#if ROLE & 3
 static void write_kexinit(void)
 {
     const castulfrisa_bytes lists[CASTULFRISA_LISTS] = {
@@ -51,8 +57,8 @@ static void start(uint64_t role)
 static void take_secret(void)
 {
     uint64_t count;
-    number = castulfrisa_take_secret(EXCHANGE, 1, sizeof x, x, sizeof x, CASTULFRISA_KEM_DONE, digest, sizeof digest, ks, sizeof ks,
-                                     value, sizeof value, &count);
+    number = castulfrisa_take_secret(EXCHANGE, 1, sizeof x, x, sizeof x, CASTULFRISA_KEM_DONE, k_pq, sizeof k_pq, ks, sizeof ks, value,
+                                     sizeof value, &count, h);
 }
 
 static void wipe(void)
@@ -60,7 +66,7 @@ static void wipe(void)
     castulfrisa_wipe(exchange, sizeof exchange);
     castulfrisa_wipe(room, sizeof room);
 }
-
+#endif
 #if ROLE & 1
 static void start_client(void) { start(CASTULFRISA_CLIENT); }
 
@@ -98,6 +104,15 @@ static void sign(void)
 }
 #endif
 
+#if ROLE & 4
+static uint8_t hash[CASTULFRISA_HASH_SIZE], digest[CASTULFRISA_H_SIZE];
+static uint8_t message[CASTULFRISA_HASH_MOST - 1]; /* 127 bytes of it wait at the end, so that the padding takes two blocks */
+
+static void hash_start(void) { number = castulfrisa_hash_start(hash, sizeof hash, CASTULFRISA_SHA512); }
+static void hash_feed(void) { number = castulfrisa_hash_feed(hash, sizeof hash, message, sizeof message); }
+static void hash_finish(void) { number = castulfrisa_hash_finish(hash, sizeof hash, digest); }
+#endif
+
 static void *run(void *call)
 {
     (*(void (**)(void))call)();
@@ -130,6 +145,7 @@ static void tell(const char *name, void (*call)(void), size_t base)
     if (d > deepest) deepest = d;
 }
 
+#if ROLE & 3
 static size_t string(uint8_t *at, const uint8_t *body, size_t len)
 {
     at[0] = 0;
@@ -140,9 +156,10 @@ static size_t string(uint8_t *at, const uint8_t *body, size_t len)
     return 4 + len;
 }
 
-int main(void)
+/* What the calls are handed. */
+static void fill(void)
 {
-    size_t base, i;
+    size_t i;
     memset(version, 'v', sizeof version);
     memset(value, 4, sizeof value);
     memset(x, 0x80, sizeof x);
@@ -154,11 +171,19 @@ int main(void)
     reply_len = 1 + string(reply + 1, ks, sizeof ks);
     reply_len += string(reply + reply_len, value, sizeof value);
     reply_len += string(reply + reply_len, signature, sizeof signature);
+}
+#endif
 
+int main(void)
+{
+    size_t base;
     depth(nothing);
     base = depth(nothing);
+#if ROLE & 3
+    fill();
     tell("write_kexinit", write_kexinit, base);
     tell("choose", choose, base);
+#endif
 #if ROLE & 1
     tell("start", start_client, base);
     tell("own_c", own_c, base);
@@ -172,8 +197,16 @@ int main(void)
     tell("take_secret", take_secret, base);
     tell("sign", sign, base);
 #endif
+#if ROLE & 3
     tell("wipe", wipe, base);
+#endif
+#if ROLE & 4
+    tell("hash_start", hash_start, base);
+    tell("hash_feed", hash_feed, base);
+    tell("hash_finish", hash_finish, base);
+#endif
     printf("deepest %zu\n", deepest);
-    printf("sizes %d %d %d %d %d\n", CASTULFRISA_ROOM, CASTULFRISA_EXCHANGE, CASTULFRISA_K, CASTULFRISA_INIT, CASTULFRISA_REPLY);
+    printf("sizes %d %d %d %d %d %d\n", CASTULFRISA_ROOM, CASTULFRISA_EXCHANGE, CASTULFRISA_K, CASTULFRISA_H_SIZE, CASTULFRISA_INIT,
+           CASTULFRISA_REPLY);
     return refused || deepest >= CASTULFRISA_STACK;
 }

@@ -92,7 +92,7 @@ def refused_kexinit(p, rng):
         (b"", 10), (kexinit(KEX, ed25519, languages=b",".join([b"y" * 60] * 70)), 10), (bytes([KEXINIT + 1]), 11),
         (kexinit(KEX, ed25519)[:-1], 12), (kexinit(KEX, ed25519) + b"\0", 13), (kexinit(KEX + b",", ed25519), 19),
         (kexinit(KEX, b"a b"), 19), (kexinit(b"n" * 65, ed25519), 19), (kexinit(KEX, ed25519, languages=b","), 19),
-        (kexinit(b"other," + b"n" * 64, ed25519), 20), (kexinit(b"", ed25519), 20), (kexinit(b"mlkem768x25519-sha256", ed25519), 20),
+        (kexinit(b"other," + b"n" * 64, ed25519), 20), (kexinit(b"", ed25519), 20), (kexinit(b"sntrup761x25519-sha512", ed25519), 20),
         (kexinit(KEX, b"ssh-dss"), 21), (kexinit(KEX, b""), 21), (kexinit(b"ext-info-c", b""), 20)])
     p.send(OWN + b"\r\n")
     p.must = FAULT, number
@@ -484,10 +484,12 @@ def between(sshd_port, change):
     return play
 
 
-def changed_replies(dock, seed, sshd_port, times=12):
+PAIRS = [(1, "ssh-ed25519"), (2, "ecdsa-sha2-nistp256"), (4, "ecdsa-sha2-nistp384"), (5, "ecdsa-sha2-nistp521"), (6, "rsa-sha2-256"),
+         (4, "rsa-sha2-512")]
+
+
+def changed_replies(dock, seed, sshd_port, times=12, pairs=PAIRS):
     """REPLY of sshd with each host key name, in each method: as it is, it must be accepted; with any other bit, refused."""
-    pairs = [(1, "ssh-ed25519"), (2, "ecdsa-sha2-nistp256"), (4, "ecdsa-sha2-nistp384"), (5, "ecdsa-sha2-nistp521"), (6, "rsa-sha2-256"),
-             (4, "rsa-sha2-512")]
     with socket.create_server(("127.0.0.1", 0)) as listener:
         listener.settimeout(60)
         for method, host_key in pairs:

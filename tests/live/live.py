@@ -42,7 +42,7 @@ def completed(answer, method, host_key):
     found = results(out)
     need(found["method"] == f"{method} {METHODS[method]}", "method", found["method"])
     need(found["host key"].split()[0] == host_key, "host key", found["host key"])
-    need(len(found["H"]) == {1: 64, 2: 64, 3: 128, 4: 64, 5: 96, 6: 128}[method], "H", found["H"])
+    need(len(found["H"]) == {1: 64, 2: 64, 3: 128, 4: 64, 5: 96, 6: 128, 7: 64, 8: 96, 9: 64}[method], "H", found["H"])
     return found
 
 
@@ -51,11 +51,15 @@ def completed(answer, method, host_key):
 def command_line(programs, dock):
     code, out, err = dock.run("--help")
     need(code == 0 and out.startswith("usage: dock ") and err == "", "--help")
+    hybrids = all(METHODS[method] in out for method in (7, 8, 9))
+    need(hybrids != ("no hybrids: this libcrypto has no ML-KEM" in out), "--help on hybrids:", out)
     wrong = [(), ("neither",), ("client",), ("client", "h"), ("client", "h", "0"), ("client", "h", "65536"), ("client", "h", "1x"),
              ("server",), ("server", "0"), ("client", "h", "1", "more"), ("client", "h", "1", "--methods", "curve25519-sha256,"),
-             ("client", "h", "1", "--methods", "mlkem768x25519-sha256"), ("client", "h", "1", "--host-keys", "ssh-dss"),
+             ("client", "h", "1", "--methods", "diffie-hellman-group14-sha256"), ("client", "h", "1", "--host-keys", "ssh-dss"),
              ("client", "h", "1", "--count", "1"), ("client", "h", "1", "--timeout", "0"), ("client", "h", "1", "--timeout"),
              ("server", "0", "--x-begins", "0"), ("server", "0", "--x-begins", "00zz"), ("server", "0", "--known-hosts", "f")]
+    if not hybrids:
+        wrong += [("client", "h", "1", "--methods", METHODS[method]) for method in (7, 8, 9)]
     for arguments in wrong:
         code, out, err = dock.run(*arguments)
         need(code == 2 and out == "", "exit", code, "of", arguments)
@@ -105,13 +109,13 @@ def as_client(programs, dock, port):
         need(found["host key"] == f"{host_key} {programs.fingerprint(host_key)}", "fingerprint", found["host key"])
         need(found["known"] == "yes", "known", found["known"])
 
-    answer = dock.run("client", "localhost", port, "--show")
+    answer = dock.run("client", "localhost", port, "--methods", METHODS[1], "--show")
     need(completed(answer, 1, "ssh-ed25519")["known"] == "not asked", "known without a file")
     shown(answer[1])
 
     right, other = programs.public("ssh-ed25519"), SIGNER.blob
     wrong = "ssh-ed25519 " + base64.b64encode(other).decode()
-    ed25519 = ("--host-keys", "ssh-ed25519")
+    ed25519 = ("--host-keys", "ssh-ed25519", "--methods", METHODS[1])
     for text in (f"127.0.0.1 {right}\n", f"a,127.0.0.1,b {right}", f"127.0.0.1 {wrong}\n[127.0.0.1]:{port} {right}\n"):
         answer = dock.run("client", "127.0.0.1", port, *ed25519, "--known-hosts", programs.write("known", text))
         need(completed(answer, 1, "ssh-ed25519")["known"] == "yes", "known by", repr(text))
@@ -263,13 +267,13 @@ def guesses(programs, dock):
 
 # ---- all
 
-def part(name, work, *arguments):
+def part(name, work, *arguments, of="live"):
     began = time.monotonic()
     try:
         said = work(*arguments)
     except (Failure, OSError, subprocess.SubprocessError) as e:
         raise Failure(f"{name}: {e}") from None
-    print(f"live: {name}: {said} ({time.monotonic() - began:.1f} s)", flush=True)
+    print(f"{of}: {name}: {said} ({time.monotonic() - began:.1f} s)", flush=True)
 
 
 def main():

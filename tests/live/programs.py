@@ -2,17 +2,20 @@
 import base64
 import os
 import re
+import shlex
 import shutil
 import signal
 import socket
 import subprocess
 import sys
+import sysconfig
 import threading
 import time
 
 METHODS = {
     1: "curve25519-sha256", 2: "curve25519-sha256@libssh.org", 3: "curve448-sha512",
     4: "ecdh-sha2-nistp256", 5: "ecdh-sha2-nistp384", 6: "ecdh-sha2-nistp521",
+    7: "mlkem768nistp256-sha256", 8: "mlkem1024nistp384-sha384", 9: "mlkem768x25519-sha256",
 }
 # host key name: file of the key, and how ssh-keygen makes it
 HOST_KEYS = {
@@ -45,9 +48,32 @@ def end_on_signals():
         signal.signal(number, lambda number, frame: sys.exit(128 + number))
 
 
+class Unpacked:
+    """Programs of another suite of Debian in a folder, as tests/suite.sh leaves them: each runs with that suite's own C library."""
+    def __init__(self, root):
+        self.root = os.path.abspath(root)
+        libraries = os.path.join(self.root, "usr/lib", sysconfig.get_config_var("MULTIARCH"))
+        loaders = sorted(name for name in os.listdir(libraries) if re.fullmatch(r"ld-linux-.*\.so\.\d+", name))
+        need(len(loaders) == 1, "no loader in", libraries)
+        self.loader = [os.path.join(libraries, loaders[0]), "--library-path", libraries]
+
+    def command(self, program):
+        """The words that run a program, of the suite's by its place there, or one that was made with the suite's libraries."""
+        return [*self.loader, os.path.join(self.root, program)]
+
+    def script(self, programs, program):
+        """A script that runs a program of the suite's, for others to start."""
+        words = " ".join(shlex.quote(word) for word in self.command(program))
+        path = programs.write(os.path.basename(program), f'#!/bin/sh\nexec {words} "$@"\n')
+        os.chmod(path, 0o755)
+        return path
+
+
 class Programs:
-    def __init__(self, folder):
-        self.folder, self.started, self.lock, self.stopped = folder, [], threading.Lock(), False
+    def __init__(self, folder, suite=None):
+        """suite: where ssh and sshd are taken from, if not from this machine."""
+        self.folder, self.started, self.lock, self.stopped, self.suite = folder, [], threading.Lock(), False, suite
+        self.ssh_command = suite.command("usr/bin/ssh") if suite else ["ssh"]
 
     def path(self, name):
         return os.path.join(self.folder, name)
@@ -135,11 +161,16 @@ class Programs:
 
     def sshd(self, lines=()):
         """An sshd of this user on the loopback; its port. It writes to sshd.log. lines: of its configuration, ahead of those here."""
-        program = shutil.which("sshd") or "/usr/sbin/sshd"
-        need(os.path.exists(program), "no sshd on this machine")
+        if self.suite:
+            command = self.suite.command("usr/sbin/sshd")
+            lines = [*lines, f"SshdSessionPath {self.suite.script(self, 'usr/lib/openssh/sshd-session')}",
+                     f"SshdAuthPath {self.suite.script(self, 'usr/lib/openssh/sshd-auth')}"]
+        else:
+            command = [shutil.which("sshd") or "/usr/sbin/sshd"]
+        need(os.path.exists(command[-1]), "no sshd on this machine")
         if os.geteuid() == 0:
             os.makedirs("/run/sshd", mode=0o755, exist_ok=True)
-        version = subprocess.run(["ssh", "-V"], capture_output=True, text=True).stderr
+        version = self.ssh_version()
         major, minor = map(int, re.search(r"OpenSSH_(\d+)\.(\d+)", version).groups())
         text = [*lines, "ListenAddress 127.0.0.1", "UsePAM no", "StrictModes no", "PidFile none", "LogLevel VERBOSE", "UseDNS no"]
         text += [f"HostKey {self.path(name)}" for name, how in HOST_KEYS.values() if how]
@@ -149,7 +180,7 @@ class Programs:
             port = free_port()
             config = self.write("sshd.conf", "\n".join(text + [f"Port {port}"]) + "\n")
             with open(self.path("sshd.log"), "wb") as log:
-                process = self.start([program, "-D", "-e", "-f", config], stdout=log, stderr=log)
+                process = self.start([*command, "-D", "-e", "-f", config], stdout=log, stderr=log)
             for _ in range(100):
                 if process.poll() is not None:
                     break
@@ -164,6 +195,9 @@ class Programs:
         with open(self.path("sshd.log"), errors="replace") as f:
             return f.read()
 
+    def ssh_version(self):
+        return subprocess.run([*self.ssh_command, "-V"], capture_output=True, text=True).stderr
+
     def ssh(self, port, method, host_key, known_hosts):
         """ssh against a server on the loopback; it ends with an error, because the server goes no further than NEWKEYS."""
         options = {
@@ -172,21 +206,23 @@ class Programs:
             "IdentityFile": "/dev/null", "UpdateHostKeys": "no",
         }
         flags = [word for name, value in options.items() for word in ("-o", f"{name}={value}")]
-        return self.run(["ssh", "-F", "/dev/null", "-p", str(port), *flags, "127.0.0.1", "true"], seconds=150)
+        return self.run([*self.ssh_command, "-F", "/dev/null", "-p", str(port), *flags, "127.0.0.1", "true"], seconds=150)
 
 
 class Dock:
-    def __init__(self, programs, path):
+    def __init__(self, programs, path, suite=None):
+        """suite: whose libraries it runs with, if not with this machine's."""
         self.programs, self.path = programs, os.path.abspath(path)
+        self.command = suite.command(self.path) if suite else [self.path]
         need(os.access(self.path, os.X_OK), "no program", path)
         # A finding of a sanitizer is not to look like a refusal.
         self.env = dict(os.environ, ASAN_OPTIONS="exitcode=99", UBSAN_OPTIONS="exitcode=99:print_stacktrace=1")
 
     def run(self, *arguments, seconds=60):
-        return self.programs.run([self.path, *map(str, arguments)], seconds, env=self.env)
+        return self.programs.run([*self.command, *map(str, arguments)], seconds, env=self.env)
 
     def start(self, *arguments):
-        return self.programs.start([self.path, *map(str, arguments)], env=self.env, stdout=subprocess.PIPE, stderr=subprocess.PIPE)
+        return self.programs.start([*self.command, *map(str, arguments)], env=self.env, stdout=subprocess.PIPE, stderr=subprocess.PIPE)
 
     def serve(self, *arguments):
         """A server on a free port: the process and the port."""

@@ -1,7 +1,7 @@
 //! A client and a server complete an exchange with each other in every method. The primitives are stand-ins with fixed outputs:
-//! both sides get the same X and digest, and the signature is 64 fixed bytes. A real host puts its own in their place.
-use castulfrisa::{choose, same_version, wipe_stack, write_kexinit};
-use castulfrisa::{Classical, Client, Greeting, Kem, Method, Own, Refusal, Server, K, EXCHANGE, INIT, KEXINIT_MOST, REPLY, ROOM};
+//! both sides get the same X and K_PQ, and the signature is 64 fixed bytes. A real host puts its own in their place.
+use castulfrisa::{choose, same_version, wipe_stack, write_kexinit, Classical, Client, Greeting, Kem, Method, Own, Refusal, Server, K};
+use castulfrisa::{EXCHANGE, INIT, KEXINIT_MOST, K_PQ_SIZE, REPLY, ROOM};
 
 fn exchange(name: &[u8]) -> Result<usize, Refusal> {
     let (mut ic, mut is) = ([0; KEXINIT_MOST], [0; KEXINIT_MOST]);
@@ -17,7 +17,7 @@ fn exchange(name: &[u8]) -> Result<usize, Refusal> {
     c[..sizes.c_classical].fill(0xc1);
     s[..sizes.s_classical].fill(0x51);
     let x = vec![0x99; sizes.x_len];
-    let (kem, digest) = if sizes.hybrid { (Kem::Done, vec![0xd1; sizes.digest_len]) } else { (Kem::Absent, Vec::new()) };
+    let kem = if sizes.hybrid { Kem::Done(&[0xd1; K_PQ_SIZE]) } else { Kem::Absent };
     let (host_key, signature) = ([0x4b; 51], [0x77; 64]);
 
     let greeting = Greeting { vc: b"SSH-2.0-client", vs: b"SSH-2.0-server", ic: &ic[..ic_len], is: &is[..is_len] };
@@ -32,15 +32,18 @@ fn exchange(name: &[u8]) -> Result<usize, Refusal> {
 
     let (server, c_read) = server.read_init(init)?;
     assert_eq!(c_read, c);
-    let server = server.take_secret(Classical::Given(&x), kem, &digest, Own { host_key: &host_key, s: &s })?;
+    let server = server.take_secret(Classical::Given(&x), kem, Own { host_key: &host_key, s: &s })?;
+    // server.h() would be signed here
     let (server, reply) = server.sign(&signature, &mut reply, &mut server_k)?;
 
     let (client, read) = client.read_reply(reply)?;
     assert_eq!((read.host_key, read.s, read.signature), (&host_key[..], &s[..], &signature[..]));
-    let client = client.take_secret(Classical::Given(&x), kem, &digest)?;
+    let client = client.take_secret(Classical::Given(&x), kem)?;
+    // and the signature over client.h() verified here
     let client = client.verdict(true, true, &mut client_k)?;
 
-    assert_eq!(client.hash_input(), server.hash_input());
+    assert_eq!((client.hash_input(), client.h()), (server.hash_input(), server.h()));
+    assert_eq!(client.h().len(), sizes.digest_len);
     assert_eq!(client_k.as_bytes(), server_k.as_bytes());
     assert!(client.hash_input().ends_with(client_k.as_bytes()));
     let hashed = client.hash_input().len();

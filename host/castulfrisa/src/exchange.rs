@@ -5,14 +5,14 @@
 //! | `Client::start` | `Client<Started>` |
 //! | `own_c` | `Client<CSent>`, and INIT |
 //! | `read_reply` | `Client<ReplyRead>`, and the parts of REPLY |
-//! | `take_secret` | `Client<SecretDone>`, which lends the hash input |
+//! | `take_secret` | `Client<SecretDone>`, which lends H and the hash input |
 //! | `verdict` | `Client<Complete>`; K is written |
 //!
 //! | server | |
 //! |---|---|
 //! | `Server::start` | `Server<Started>` |
 //! | `read_init` | `Server<InitRead>`, and C |
-//! | `take_secret` | `Server<SecretDone>`, which lends the hash input |
+//! | `take_secret` | `Server<SecretDone>`, which lends H and the hash input |
 //! | `sign` | `Server<Complete>`, and REPLY; K is written |
 //!
 //! A step that is refused with nothing changed brings the exchange back ([`Stopped::Refused`]); the peer's fault ends it, and
@@ -104,7 +104,7 @@
 //! ```
 use crate::raw::{self, Progress};
 use crate::refusal::{judged, Refusal};
-use crate::{bytes, Method, EXCHANGE};
+use crate::{bytes, Method, EXCHANGE, H_SIZE};
 use core::fmt;
 use core::marker::PhantomData;
 
@@ -152,16 +152,30 @@ pub struct InitRead(());
 #[derive(Debug)]
 pub struct ReplyRead(());
 
-/// K is known, and the hash input is whole.
+/// K is known, and the hash input is whole and hashed.
 #[derive(Debug)]
 pub struct SecretDone {
-    hashed: usize,
+    hashed: Hashed,
 }
 
 /// Every step of the role was accepted.
 #[derive(Debug)]
 pub struct Complete {
-    hashed: usize,
+    hashed: Hashed,
+}
+
+/// How many bytes of the room were hashed, and H with the number of its bytes.
+#[derive(Clone, Copy, Debug)]
+struct Hashed {
+    input: usize,
+    h: [u8; H_SIZE],
+    h_len: usize,
+}
+
+impl Hashed {
+    fn h(&self) -> &[u8] {
+        &self.h[..self.h_len]
+    }
 }
 
 /// What both sides sent ahead of the exchange: their version lines without CR and LF, and their KEXINIT payloads.
@@ -190,12 +204,38 @@ impl fmt::Debug for Classical<'_> {
     }
 }
 
-/// What the KEM gave: absent in methods 1 to 6.
-#[derive(Clone, Copy, Debug, PartialEq, Eq)]
-pub enum Kem {
-    Absent = 0,
-    Failed = 1,
-    Done = 2,
+/// What the KEM gave: absent in methods 1 to 6, else K_PQ, whatever the classical primitive gave.
+#[derive(Clone, Copy)]
+pub enum Kem<'a> {
+    Absent,
+    Failed,
+    Done(&'a [u8]),
+}
+
+impl<'a> Kem<'a> {
+    /// The core's number, and K_PQ.
+    fn told(self) -> (u64, &'a [u8]) {
+        match self {
+            Kem::Absent => (0, &[]),
+            Kem::Failed => (1, &[]),
+            Kem::Done(k_pq) => (2, k_pq),
+        }
+    }
+
+    pub fn number(self) -> u64 {
+        self.told().0
+    }
+}
+
+impl fmt::Debug for Kem<'_> {
+    // without K_PQ
+    fn fmt(&self, f: &mut fmt::Formatter<'_>) -> fmt::Result {
+        match self {
+            Kem::Absent => f.write_str("Absent"),
+            Kem::Failed => f.write_str("Failed"),
+            Kem::Done(k_pq) => write!(f, "Done({} bytes)", k_pq.len()),
+        }
+    }
 }
 
 /// A server's host key blob and own public value.
@@ -353,18 +393,22 @@ impl<'r, R, S> Exchange<'r, R, S> {
     }
 
     fn secret(
-        mut self, classical: Classical<'_>, kem: Kem, digest: &[u8], own: Own<'_>,
+        mut self, classical: Classical<'_>, kem: Kem<'_>, own: Own<'_>,
     ) -> Result<Exchange<'r, R, SecretDone>, Stopped<Self>> {
         let (given, x) = match classical {
             Classical::Failed => (0, &[][..]),
             Classical::Given(x) => (1, x),
         };
+        let (kem, k_pq) = kem.told();
+        let (mut sizes, mut input, mut h) = (raw::Sizes::default(), 0, [0; H_SIZE]);
+        // 0: an exchange that lives has a method
+        let _ = raw::method_sizes(self.told().method, &mut sizes);
         let Lent { exchange, room } = &mut self.lent;
-        let mut hashed = 0;
         let number = raw::take_secret(
-            *exchange, room, given, x.len() as u64, x, kem as u64, digest, own.host_key, own.s, &mut hashed,
+            *exchange, room, given, x.len() as u64, x, kem, k_pq, own.host_key, own.s, &mut input, &mut h,
         );
-        self.after(number, SecretDone { hashed: hashed as usize })
+        let hashed = Hashed { input: input as usize, h, h_len: sizes.digest_len as usize };
+        self.after(number, SecretDone { hashed })
     }
 }
 
@@ -410,10 +454,9 @@ impl<'r> Client<'r, CSent> {
 }
 
 impl<'r> Client<'r, ReplyRead> {
-    /// What the primitives gave, with the digest of a hybrid's two secrets; it is empty where a primitive failed and in methods 1
-    /// to 6.
-    pub fn take_secret(self, classical: Classical<'_>, kem: Kem, digest: &[u8]) -> Result<Client<'r, SecretDone>, Stopped<Self>> {
-        self.secret(classical, kem, digest, Own { host_key: &[], s: &[] })
+    /// What the primitives gave.
+    pub fn take_secret(self, classical: Classical<'_>, kem: Kem<'_>) -> Result<Client<'r, SecretDone>, Stopped<Self>> {
+        self.secret(classical, kem, Own { host_key: &[], s: &[] })
     }
 }
 
@@ -444,9 +487,9 @@ impl<'r> Server<'r, Started> {
 impl<'r> Server<'r, InitRead> {
     /// What the primitives gave, as at the client, with the server's own values.
     pub fn take_secret(
-        self, classical: Classical<'_>, kem: Kem, digest: &[u8], own: Own<'_>,
+        self, classical: Classical<'_>, kem: Kem<'_>, own: Own<'_>,
     ) -> Result<Server<'r, SecretDone>, Stopped<Self>> {
-        self.secret(classical, kem, digest, own)
+        self.secret(classical, kem, own)
     }
 }
 
@@ -467,15 +510,25 @@ impl<'r> Server<'r, SecretDone> {
 }
 
 impl<R> Exchange<'_, R, SecretDone> {
+    /// H, the exchange hash: what is signed and verified.
+    pub fn h(&self) -> &[u8] {
+        self.stage.hashed.h()
+    }
+
     /// What H is the hash of. K is its end.
     pub fn hash_input(&self) -> &[u8] {
-        &self.lent.room[..self.stage.hashed]
+        &self.lent.room[..self.stage.hashed.input]
     }
 }
 
 impl<R> Exchange<'_, R, Complete> {
+    /// H, the exchange hash: from it, K and the session identifier, which is H of a connection's first exchange, keys are derived.
+    pub fn h(&self) -> &[u8] {
+        self.stage.hashed.h()
+    }
+
     /// What H is the hash of. K is its end.
     pub fn hash_input(&self) -> &[u8] {
-        &self.lent.room[..self.stage.hashed]
+        &self.lent.room[..self.stage.hashed.input]
     }
 }

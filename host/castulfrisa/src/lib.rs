@@ -1,5 +1,5 @@
 //! Safe calls into the key-exchange core of SSH: strings and mpints, KEXINIT, the choice of a method, and one exchange as client or
-//! server. The core computes no curve, KEM, digest or signature: the host does, and hands in what came out.
+//! server. The core computes no curve, KEM or signature: the host does, and hands in what came out. It hashes with its own SHA-2.
 //!
 //! A refusal is an `Err` with the one cause that the core found first. An exchange is a type for each role and stage: a step
 //! consumes it and returns the next, so that a step of the other role, one out of order and a second use do not compile. Nothing
@@ -28,12 +28,12 @@
 //! let (server, c) = server.read_init(init)?;
 //! assert_eq!(c, [1; 32]);
 //! let own = Own { host_key: b"host key", s: &[2; 32] };
-//! let server = server.take_secret(Classical::Given(&[3; 32]), Kem::Absent, &[], own)?;
+//! let server = server.take_secret(Classical::Given(&[3; 32]), Kem::Absent, own)?;
 //! let (server, reply) = server.sign(b"signature over H", &mut reply, &mut server_k)?;
 //! let (client, parts) = client.read_reply(reply)?;
 //! assert_eq!((parts.host_key, parts.s, parts.signature), (&b"host key"[..], &[2; 32][..], &b"signature over H"[..]));
-//! let client = client.take_secret(Classical::Given(&[3; 32]), Kem::Absent, &[])?;
-//! assert_eq!(client.hash_input(), server.hash_input());
+//! let client = client.take_secret(Classical::Given(&[3; 32]), Kem::Absent)?;
+//! assert_eq!(client.h(), server.h()); // what is signed, and verified
 //! client.verdict(true, true, &mut client_k)?;
 //! assert_eq!(client_k.as_bytes(), server_k.as_bytes());
 //!
@@ -46,6 +46,7 @@
 #![deny(missing_debug_implementations)]
 
 pub mod exchange;
+mod hash;
 mod kexinit;
 mod method;
 pub mod raw;
@@ -53,13 +54,14 @@ mod refusal;
 mod wire;
 
 pub use exchange::{Classical, Client, Greeting, Kem, Own, Reply, Role, Server, Stopped, K};
+pub use hash::{Hash, Kind};
 pub use kexinit::{choose, open_list, write_kexinit, Choice, Kexinit, List, Names, NotWritten};
 pub use method::{Method, Name, Sizes};
 pub use refusal::Refusal;
 pub use wire::{read_mpint, read_string, write_mpint, write_string, Mpint};
 
 /// The version of the header that this crate was written to.
-pub const VERSION: u64 = 2;
+pub const VERSION: u64 = 3;
 
 /// The bytes of an exchange.
 pub const EXCHANGE: usize = 90;
@@ -81,8 +83,14 @@ pub const PAYLOAD_MOST: usize = 32_768;
 pub const VALUE_MOST: usize = 1_665;
 /// The longest X of any method.
 pub const X_MOST: usize = 66;
-/// The longest digest of any method.
-pub const DIGEST_MOST: usize = 64;
+/// The KEM's output K_PQ.
+pub const K_PQ_SIZE: usize = 32;
+/// H and a digest, zeros after the digest's own bytes.
+pub const H_SIZE: usize = 64;
+/// The bytes of a hash.
+pub const HASH_SIZE: usize = 209;
+/// What one hash is fed in all.
+pub const HASH_MOST: usize = 65_536;
 /// A KEXINIT's cookie.
 pub const COOKIE: usize = 16;
 /// How many lists a KEXINIT has.
@@ -98,7 +106,7 @@ pub fn same_version() -> bool {
     raw::version() == VERSION
 }
 
-/// Overwrites the stack below the caller's frame, as far as any call of the core reaches: K and X stay there in copies that a
+/// Overwrites the stack below the caller's frame, as far as any call of the core reaches: K, K_PQ and X stay there in copies that a
 /// compiler made. To be called from the function that made the calls, once the keys are derived.
 #[inline(never)]
 pub fn wipe_stack() {

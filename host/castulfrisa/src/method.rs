@@ -109,8 +109,9 @@ pub struct Sizes {
     /// Where S's does.
     pub s_classical: usize,
     pub x_len: usize,
+    /// The digest in H, which is the kind of its hash too.
     pub digest_len: usize,
-    /// Whether a KEM and a digest belong to it.
+    /// Whether a KEM belongs to it.
     pub hybrid: bool,
     /// Whether an all-zero X is refused.
     pub zero_check: bool,

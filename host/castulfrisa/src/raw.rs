@@ -1,8 +1,9 @@
 //! The boundary one to one: each entry of `include/castulfrisa.h` as a safe function on slices and on the header's runs of 64-bit
-//! numbers. A call returns its number; an exchange is any slice, so that one of a wrong length can be lent too.
+//! numbers. A call returns its number; an exchange and a hash are any slice, so that one of a wrong length can be lent too.
 //!
 //! Safe because the library asks nothing of its caller but what references have by themselves: memory that is valid, live and
 //! aligned, and that shares no byte where it is written.
+use crate::H_SIZE;
 
 /// A place in the payload that was handed in; `0, 0` for a refusal.
 #[repr(C)]
@@ -144,10 +145,11 @@ mod c {
             exchange: *mut u8, exchange_len: u64, room: *mut u8, room_len: u64,
             given: u64, x_count: u64, x: *const u8, x_len: u64,
             kem: u64,
-            digest: *const u8, digest_len: u64,
+            k_pq: *const u8, k_pq_len: u64,
             ks: *const u8, ks_len: u64,
             s: *const u8, s_len: u64,
             count: *mut u64,
+            h: *mut u8,
         ) -> u64;
         pub fn castulfrisa_sign(
             exchange: *mut u8, exchange_len: u64, room: *const u8, room_len: u64,
@@ -175,6 +177,9 @@ mod c {
             payload: *const u8, payload_len: u64, signature: *mut Part,
         ) -> u64;
         pub fn castulfrisa_state(exchange: *const u8, exchange_len: u64, told: *mut Progress) -> u64;
+        pub fn castulfrisa_hash_start(hash: *mut u8, hash_len: u64, kind: u64) -> u64;
+        pub fn castulfrisa_hash_feed(hash: *mut u8, hash_len: u64, part: *const u8, part_len: u64) -> u64;
+        pub fn castulfrisa_hash_finish(hash: *const u8, hash_len: u64, digest: *mut u8) -> u64;
         pub fn castulfrisa_wipe(buffer: *mut u8, buffer_len: u64);
         pub fn castulfrisa_version() -> u64;
     }
@@ -300,21 +305,22 @@ pub fn read_reply(exchange: &mut [u8], room: &mut [u8], payload: &[u8], parts: &
     }
 }
 
-/// Both roles: what the primitives gave.
+/// Both roles: what the primitives gave; H written.
 #[allow(clippy::too_many_arguments)]
 pub fn take_secret(
-    exchange: &mut [u8], room: &mut [u8], given: u64, x_count: u64, x: &[u8], kem: u64, digest: &[u8], ks: &[u8], s: &[u8],
-    count: &mut u64,
+    exchange: &mut [u8], room: &mut [u8], given: u64, x_count: u64, x: &[u8], kem: u64, k_pq: &[u8], ks: &[u8], s: &[u8],
+    count: &mut u64, h: &mut [u8; H_SIZE],
 ) -> u64 {
     unsafe {
         c::castulfrisa_take_secret(
             exchange.as_mut_ptr(), exchange.len() as u64, room.as_mut_ptr(), room.len() as u64,
             given, x_count, x.as_ptr(), x.len() as u64,
             kem,
-            digest.as_ptr(), digest.len() as u64,
+            k_pq.as_ptr(), k_pq.len() as u64,
             ks.as_ptr(), ks.len() as u64,
             s.as_ptr(), s.len() as u64,
             count,
+            h.as_mut_ptr(),
         )
     }
 }
@@ -385,6 +391,23 @@ pub fn reply_signature(exchange: &[u8], room: &[u8], payload: &[u8], signature: 
 /// How far an exchange has come.
 pub fn state(exchange: &[u8], told: &mut Progress) -> u64 {
     unsafe { c::castulfrisa_state(exchange.as_ptr(), exchange.len() as u64, told) }
+}
+
+// ---- hashes
+
+/// Starts a hash.
+pub fn hash_start(hash: &mut [u8], kind: u64) -> u64 {
+    unsafe { c::castulfrisa_hash_start(hash.as_mut_ptr(), hash.len() as u64, kind) }
+}
+
+/// Feeds a part.
+pub fn hash_feed(hash: &mut [u8], part: &[u8]) -> u64 {
+    unsafe { c::castulfrisa_hash_feed(hash.as_mut_ptr(), hash.len() as u64, part.as_ptr(), part.len() as u64) }
+}
+
+/// The digest of what was fed.
+pub fn hash_finish(hash: &[u8], digest: &mut [u8; H_SIZE]) -> u64 {
+    unsafe { c::castulfrisa_hash_finish(hash.as_ptr(), hash.len() as u64, digest.as_mut_ptr()) }
 }
 
 // ---- for the host

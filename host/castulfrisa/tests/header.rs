@@ -65,7 +65,10 @@ fn sizes_are_the_headers() {
         ("PAYLOAD_MOST", PAYLOAD_MOST as u64),
         ("VALUE_MOST", VALUE_MOST as u64),
         ("X_MOST", X_MOST as u64),
-        ("DIGEST_MOST", DIGEST_MOST as u64),
+        ("K_PQ_SIZE", K_PQ_SIZE as u64),
+        ("H_SIZE", H_SIZE as u64),
+        ("HASH_SIZE", HASH_SIZE as u64),
+        ("HASH_MOST", HASH_MOST as u64),
         ("COOKIE", COOKIE as u64),
         ("LISTS", LISTS as u64),
         ("METHOD_NAME_MOST", METHOD_NAME_MOST as u64),
@@ -85,8 +88,10 @@ fn numbers_are_the_headers() {
     assert_eq!(numbers("method"), ours.into());
     let ours = List::ALL.map(|list| (format!("LIST_{}", upper(list)), list.number()));
     assert_eq!(numbers("list"), ours.into());
-    let ours = [Kem::Absent, Kem::Failed, Kem::Done].map(|kem| (format!("KEM_{}", upper(kem)), kem as u64));
-    assert_eq!(numbers("kem"), ours.into());
+    let ours = [("ABSENT", Kem::Absent), ("FAILED", Kem::Failed), ("DONE", Kem::Done(&[]))];
+    assert_eq!(numbers("kem"), ours.map(|(name, kem)| (format!("KEM_{}", name), kem.number())).into());
+    let ours = Kind::ALL.map(|kind| (format!("{:?}", kind).to_uppercase(), kind.number()));
+    assert_eq!(numbers("kind"), ours.into());
 }
 
 #[test]
@@ -157,7 +162,7 @@ fn entries_are_the_headers() {
         let back = back.trim().strip_prefix("-> ").unwrap_or("()").to_string();
         ours.insert(ahead.to_string(), (list, back));
     }
-    assert_eq!(theirs.len(), 25);
+    assert_eq!(theirs.len(), 28);
     assert_eq!(ours, theirs);
 }
 

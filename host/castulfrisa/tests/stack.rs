@@ -42,7 +42,7 @@ fn exchange(run: &mut Run) {
     let server = Server::start(Method::Curve25519Sha256, greeting, &mut run.exchange, &mut run.room).unwrap();
     let (server, _) = server.read_init(&run.init).unwrap();
     let own = Own { host_key: b"k", s: &[2; 32] };
-    let server = server.take_secret(Classical::Given(&run.x), Kem::Absent, &[], own).unwrap();
+    let server = server.take_secret(Classical::Given(&run.x), Kem::Absent, own).unwrap();
     server.sign(b"g", &mut run.reply, &mut run.k).unwrap();
 }
 

@@ -1,5 +1,5 @@
 //! What the wrapper adds to the boundary: slices for parts, refusals for numbers, an iterator for a list, an exchange that comes
-//! back or ends, and a K that is wiped.
+//! back or ends, and a K and a hash that are wiped.
 use castulfrisa::exchange::{Complete, SecretDone, Started};
 use castulfrisa::*;
 use std::fmt::Write;
@@ -158,12 +158,12 @@ fn reply() -> Vec<u8> {
 fn client_at_secret(b: &mut Buffers) -> Client<'_, SecretDone> {
     let client = b.client().own_c(&[1; 32], &mut [0; INIT]).unwrap().0;
     let client = client.read_reply(&reply()).unwrap().0;
-    client.take_secret(Classical::Given(&X), Kem::Absent, &[]).unwrap()
+    client.take_secret(Classical::Given(&X), Kem::Absent).unwrap()
 }
 
 fn server_at_secret(b: &mut Buffers) -> Server<'_, SecretDone> {
     let server = b.server().read_init(&init()).unwrap().0;
-    server.take_secret(Classical::Given(&X), Kem::Absent, &[], Own { host_key: b"k", s: &[2; 32] }).unwrap()
+    server.take_secret(Classical::Given(&X), Kem::Absent, Own { host_key: b"k", s: &[2; 32] }).unwrap()
 }
 
 fn back<T, E>(step: Result<T, Stopped<E>>, want: Refusal) -> E {
@@ -199,10 +199,12 @@ fn what_changes_nothing_brings_the_exchange_back() {
     let payload = reply();
     let (client, parts) = client.read_reply(&payload).unwrap();
     assert_eq!(parts, Reply { host_key: b"k", s: &[2; 32], signature: b"g" });
-    let client = back(client.take_secret(Classical::Given(&X[1..]), Kem::Absent, &[]), Refusal::BadInput);
-    let client = back(client.take_secret(Classical::Given(&X), Kem::Done, &[1; 32]), Refusal::BadInput);
-    let client = client.take_secret(Classical::Given(&X), Kem::Absent, &[]).unwrap();
+    let client = back(client.take_secret(Classical::Given(&X[1..]), Kem::Absent), Refusal::BadInput);
+    let client = back(client.take_secret(Classical::Given(&X), Kem::Done(&[1; 32])), Refusal::BadInput);
+    let client = client.take_secret(Classical::Given(&X), Kem::Absent).unwrap();
     let k = [&[0, 0, 0, 32][..], &X].concat();
+    let h = sha(Kind::Sha256, client.hash_input());
+    assert_eq!(client.h(), h);
     assert!(client.hash_input().starts_with(b"\0\0\0\x01c\0\0\0\x01s") && client.hash_input().ends_with(&k));
     assert_eq!(client.role(), Role::Client);
     let mut written = K::new();
@@ -210,6 +212,7 @@ fn what_changes_nothing_brings_the_exchange_back() {
     let client: Client<Complete> = client.verdict(true, true, &mut written).unwrap();
     assert_eq!(written.as_bytes(), k);
     assert!(client.hash_input().ends_with(&k));
+    assert_eq!(client.h(), h);
     drop(client);
     assert!(b.wiped());
 
@@ -223,6 +226,7 @@ fn what_changes_nothing_brings_the_exchange_back() {
     let (server, sent) = server.sign(b"g", &mut out, &mut written).unwrap();
     assert_eq!((sent, written.as_bytes()), (&reply()[..], &k[..]));
     assert!(server.hash_input().ends_with(&k));
+    assert_eq!(server.h(), h);
     drop(server);
     assert!(b.wiped());
 }
@@ -236,7 +240,7 @@ fn a_fault_ends_an_exchange_and_empties_what_it_was_lent() {
     ended(client.read_reply(&[30]), Refusal::Message);
     assert!(b.wiped());
     let server = b.server().read_init(&init()).unwrap().0;
-    ended(server.take_secret(Classical::Failed, Kem::Absent, &[], Own { host_key: b"k", s: &[2; 32] }), Refusal::Classical);
+    ended(server.take_secret(Classical::Failed, Kem::Absent, Own { host_key: b"k", s: &[2; 32] }), Refusal::Classical);
     assert!(b.wiped());
     let mut k = K::new();
     for (signature, host_key) in [(false, true), (true, false)] {
@@ -263,6 +267,78 @@ fn what_was_lent_is_wiped_at_every_stage() {
     assert!(b.wiped());
 }
 
+/// The digest of a message fed in two parts.
+fn sha(kind: Kind, message: &[u8]) -> Vec<u8> {
+    let (one, two) = message.split_at(message.len() / 3);
+    let mut hash = Hash::start(kind);
+    hash.feed(one).unwrap();
+    hash.feed(two).unwrap();
+    let mut digest = [7; H_SIZE];
+    let len = hash.finish(&mut digest).unwrap().len();
+    assert_eq!((len as u64, &digest[len..]), (kind.number(), &vec![0; H_SIZE - len][..]));
+    digest[..len].to_vec()
+}
+
+#[test]
+fn a_hybrids_k_is_the_hash_of_k_pq_and_x() {
+    let kinds = [
+        (Method::Mlkem768Nistp256Sha256, Kind::Sha256),
+        (Method::Mlkem1024Nistp384Sha384, Kind::Sha384),
+        (Method::Mlkem768X25519Sha256, Kind::Sha256),
+    ];
+    let (mut b, k_pq) = (Buffers::new(), [0x71; K_PQ_SIZE]);
+    for (method, kind) in kinds {
+        let sizes = method.sizes();
+        assert_eq!(Kind::of(sizes.digest_len as u64), Some(kind));
+        let (c, s, x) = (vec![4; sizes.c_len], vec![4; sizes.s_len], vec![0x5b; sizes.x_len]);
+        let own = Own { host_key: b"k", s: &s };
+        let init = [&[30][..], &(c.len() as u32).to_be_bytes(), &c].concat();
+        let server = Server::start(method, GREETING, &mut b.exchange, &mut b.room).unwrap().read_init(&init).unwrap().0;
+        let server = back(server.take_secret(Classical::Given(&x), Kem::Done(&k_pq[1..]), own), Refusal::BadInput);
+        let server = back(server.take_secret(Classical::Failed, Kem::Done(&[]), own), Refusal::BadInput);
+        let server = back(server.take_secret(Classical::Given(&x), Kem::Absent, own), Refusal::BadInput);
+        let server = server.take_secret(Classical::Given(&x), Kem::Done(&k_pq), own).unwrap();
+        let digest = sha(kind, &[&k_pq[..], &x].concat());
+        assert!(server.hash_input().ends_with(&[&[0, 0, 0, digest.len() as u8][..], &digest].concat()));
+        assert_eq!(server.h(), sha(kind, server.hash_input()));
+        drop(server);
+        let server = Server::start(method, GREETING, &mut b.exchange, &mut b.room).unwrap().read_init(&init).unwrap().0;
+        ended(server.take_secret(Classical::Given(&x), Kem::Failed, own), Refusal::Kem);
+    }
+}
+
+#[test]
+fn a_hash_is_fed_and_finished() {
+    assert_eq!(sha(Kind::Sha256, b"abc")[..4], [0xba, 0x78, 0x16, 0xbf]);
+    assert_eq!(sha(Kind::Sha384, b"abc")[..4], [0xcb, 0x00, 0x75, 0x3f]);
+    assert_eq!(sha(Kind::Sha512, b"abc")[..4], [0xdd, 0xaf, 0x35, 0xa1]);
+    for kind in Kind::ALL {
+        assert_eq!(Kind::of(kind.number()), Some(kind));
+        let (mut hash, mut digest, mut more) = (Hash::start(kind), [7; H_SIZE], [7; H_SIZE]);
+        assert_eq!(hash.kind(), kind);
+        hash.feed(&[1; HASH_MOST - 1]).unwrap();
+        assert_eq!(hash.feed(&[1; 2]), Err(Refusal::BadInput));
+        hash.feed(&[1]).unwrap();
+        hash.finish(&mut digest).unwrap();
+        assert_eq!((hash.feed(&[1]), hash.feed(&[])), (Err(Refusal::BadInput), Ok(())));
+        hash.finish(&mut more).unwrap();
+        assert_eq!((digest, &digest[..kind as usize]), (more, &sha(kind, &[1; HASH_MOST])[..]));
+    }
+    assert_eq!((Kind::of(0), Kind::of(33), Kind::of(1 << 32 | 32)), (None, None, None));
+}
+
+#[test]
+fn a_hash_is_wiped_when_it_is_dropped() {
+    let mut hash = ManuallyDrop::new(Hash::start(Kind::Sha512));
+    hash.feed(&X).unwrap();
+    let place: *const Hash = &*hash;
+    let bytes = |place: *const Hash| unsafe { std::slice::from_raw_parts(place.cast::<u8>(), size_of::<Hash>()) }.to_vec();
+    assert!(bytes(place).windows(32).any(|all| all == X));
+    unsafe { ManuallyDrop::drop(&mut hash) };
+    // what is left is its kind
+    assert_eq!(bytes(place).iter().filter(|byte| **byte != 0).collect::<Vec<_>>(), [&64]);
+}
+
 #[test]
 fn a_k_is_wiped_when_it_is_dropped() {
     let mut b = Buffers::new();
@@ -282,15 +358,20 @@ fn nothing_secret_is_shown() {
     let mut k = K::new();
     let mut shown = String::new();
     let client = client_at_secret(&mut b);
-    write!(shown, "{:?} {:?} ", Classical::Given(&X), client).unwrap();
+    write!(shown, "{:?} {:?} {:?} {:?} ", Classical::Given(&X), Kem::Done(&X), Kem::Failed, client).unwrap();
     let client = client.verdict(true, true, &mut k).unwrap();
     write!(shown, "{:?} {:?} ", client, k).unwrap();
     drop(client);
     let refused = server_at_secret(&mut b).sign(&[], &mut [0; REPLY], &mut k).map(|_| ()).unwrap_err();
-    write!(shown, "{:?} {}", refused, refused).unwrap();
+    write!(shown, "{:?} {} ", refused, refused).unwrap();
+    let mut hash = Hash::start(Kind::Sha384);
+    hash.feed(&X).unwrap();
+    write!(shown, "{:?}", hash).unwrap();
     assert_eq!(
         shown,
-        "Given(32 bytes) Exchange { role: 1, method: 1, stage: 4, .. } Exchange { role: 1, method: 1, stage: 5, .. } K { .. } \
-         Refused { refusal: BadInput, .. } a field, outcome or digest handed in has a wrong length or form (4)"
+        "Given(32 bytes) Done(32 bytes) Failed Exchange { role: 1, method: 1, stage: 4, .. } \
+         Exchange { role: 1, method: 1, stage: 5, .. } K { .. } \
+         Refused { refusal: BadInput, .. } a field, outcome, K_PQ or hash handed in has a wrong length or form (4) \
+         Hash { kind: Sha384, .. }"
     );
 }

@@ -48,7 +48,7 @@ pub enum Call {
     OwnC { c: Vec<u8>, out: Filled },
     Init(Vec<u8>),
     Reply(Vec<u8>),
-    Secret { given: u64, x_count: u64, x: Vec<u8>, kem: u64, digest: Vec<u8>, ks: Vec<u8>, s: Vec<u8> },
+    Secret { given: u64, x_count: u64, x: Vec<u8>, kem: u64, k_pq: Vec<u8>, ks: Vec<u8>, s: Vec<u8> },
     Sign { signature: Vec<u8>, out: Filled, k_out: Filled },
     Verdict { signature: u64, host_key: u64, k_out: Filled },
 }
@@ -265,7 +265,7 @@ fn x_value(r: &mut Random, len: usize) -> Vec<u8> {
 }
 
 fn secret(r: &mut Random, role: u8, method: u8) -> Call {
-    let (x_len, digest_len, hybrid) = plain::method(method).map_or((32, 32, false), |m| (m.x_len, m.digest_len, m.hybrid));
+    let (x_len, hybrid) = plain::method(method).map_or((32, false), |m| (m.x_len, m.hybrid));
     let mut x = x_value(r, x_len);
     let (mut given, mut x_count) = (1, x_len as u64);
     let mut kem = if hybrid { 2 } else { 0 };
@@ -280,15 +280,14 @@ fn secret(r: &mut Random, role: u8, method: u8) -> Call {
     if hybrid && r.once_in(10) {
         kem = 1;
     }
-    let fails = given != 1 || kem == 1;
-    let mut digest = if hybrid && !fails { r.bytes(digest_len) } else { Vec::new() };
+    let mut k_pq = if kem == 2 { r.bytes(plain::K_PQ) } else { Vec::new() };
     let (mut ks, mut s) = (blob(r), s_value(r, method));
     if role == 1 && r.coin() {
         ks.clear();
         s.clear();
     }
     if r.once_in(6) {
-        match r.below(6) {
+        match r.below(7) {
             0 => {
                 given = 1;
                 x_count = r.of(&[0, 31, 32, 33, 48, 56, 66, x_len as u64 | 1 << 32, u64::MAX]);
@@ -305,13 +304,18 @@ fn secret(r: &mut Random, role: u8, method: u8) -> Call {
             }
             3 => {
                 let n = r.of(&[0, 1, 31, 32, 33, 48, 64]);
-                digest = r.bytes(n);
+                k_pq = r.bytes(n);
             }
             4 => ks.clear(),
+            // K_PQ goes by the KEM, though the classical primitive failed
+            5 if hybrid => {
+                (given, kem) = (yes_or_no(r, false), 2);
+                k_pq = if r.coin() { Vec::new() } else { r.bytes(plain::K_PQ) };
+            }
             _ => s.push(0),
         }
     }
-    Call::Secret { given, x_count, x, kem, digest, ks, s }
+    Call::Secret { given, x_count, x, kem, k_pq, ks, s }
 }
 
 /// The step with this number: own C, INIT, REPLY, secret, signature, verdict.

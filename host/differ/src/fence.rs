@@ -4,8 +4,8 @@ use castulfrisa::raw;
 use std::ptr;
 
 const PAGE: usize = 4096;
-/// The bytes between the two pages.
-pub const SPACE: usize = 16 * PAGE;
+/// The bytes between the two pages: more than a hash is fed.
+pub const SPACE: usize = 17 * PAGE;
 
 extern "C" {
     fn mmap(addr: *mut u8, len: usize, prot: i32, flags: i32, fd: i32, at: i64) -> *mut u8;
@@ -85,6 +85,11 @@ impl Fence {
 
     pub fn bytes_mut(&mut self) -> &mut [u8] {
         unsafe { std::slice::from_raw_parts_mut(self.space.add(self.at), self.len) }
+    }
+
+    /// What is lent, as an array of just so many bytes.
+    pub fn array<const N: usize>(&mut self) -> &mut [u8; N] {
+        self.bytes_mut().try_into().expect("an array of its length was lent")
     }
 
     /// Numbers for a call to fill in, at the fence, each of them `word` until then.

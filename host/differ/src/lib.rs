@@ -2,9 +2,9 @@
 pub mod calls;
 pub mod codecs;
 pub mod fence;
+pub mod hashes;
 pub mod lists;
 pub mod model;
 pub mod random;
-pub mod sha2;
 pub mod stored;
 pub mod tally;

@@ -16,6 +16,7 @@ pub struct Lent {
     room: Fence,
     out: Fence,
     k_out: Fence,
+    h: Fence,
     inputs: [Fence; 4],
     numbers: Fence,
     ahead: Ahead,
@@ -72,6 +73,7 @@ impl Lent {
         let Ahead { exchange, room, others } = self.ahead;
         self.out.lend(&[], others);
         self.k_out.lend(&[], others);
+        self.h.lend(&[], others);
         match call {
             Call::Room(f) => {
                 self.room.lend(&f.bytes(), room);
@@ -90,6 +92,9 @@ impl Lent {
             }
             Call::Verdict { k_out, .. } => {
                 self.k_out.lend(&k_out.bytes(), others);
+            }
+            Call::Secret { .. } => {
+                self.h.lend(&[0xa5; plain::H], others);
             }
             _ => {}
         }
@@ -151,10 +156,10 @@ impl Lent {
                 given.told = six(parts.words());
                 number
             }
-            Call::Secret { given: yes, x_count, x, kem, digest, ks, s } => {
-                let (x, digest, ks, s) = (i0.lend(x, ahead), i1.lend(digest, ahead), i2.lend(ks, ahead), i3.lend(s, ahead));
+            Call::Secret { given: yes, x_count, x, kem, k_pq, ks, s } => {
+                let (x, k_pq, ks, s) = (i0.lend(x, ahead), i1.lend(k_pq, ahead), i2.lend(ks, ahead), i3.lend(s, ahead));
                 let count: &mut u64 = numbers.numbers(word, ahead);
-                let number = raw::take_secret(exchange, room, *yes, *x_count, x, *kem, digest, ks, s, count);
+                let number = raw::take_secret(exchange, room, *yes, *x_count, x, *kem, k_pq, ks, s, count, self.h.array());
                 given.told = six(count.words());
                 number
             }
@@ -183,7 +188,7 @@ impl Lent {
             Call::OwnC { c: one, .. } | Call::Sign { signature: one, .. } | Call::Init(one) | Call::Reply(one) => {
                 [one, &[], &[], &[]]
             }
-            Call::Secret { x, digest, ks, s, .. } => [x, digest, ks, s],
+            Call::Secret { x, k_pq, ks, s, .. } => [x, k_pq, ks, s],
             _ => return None,
         };
         inputs.iter().zip(&self.inputs).position(|(given, fence)| !given.is_empty() && *given != fence.bytes())
@@ -225,9 +230,11 @@ pub enum Sight {
     WideKem,
     WideSignature,
     WideHostKey,
+    KemAlone,
+    KemWithout,
 }
 
-const SIGHTS: [(Sight, &str); 19] = [
+const SIGHTS: [(Sight, &str); 21] = [
     (Sight::Call, "calls"),
     (Sight::Complete, "exchanges complete"),
     (Sight::Fault, "peer faults"),
@@ -247,6 +254,8 @@ const SIGHTS: [(Sight, &str); 19] = [
     (Sight::WideKem, "outcomes of the KEM"),
     (Sight::WideSignature, "verdicts on a signature"),
     (Sight::WideHostKey, "verdicts on a host key"),
+    (Sight::KemAlone, "KEMs done with K_PQ where the classical primitive failed, 16"),
+    (Sight::KemWithout, "of them without K_PQ, 4"),
 ];
 
 #[derive(Default)]
@@ -268,9 +277,12 @@ impl Seen {
                 self.add(Sight::WideRole, wide(*role));
                 self.add(Sight::WideMethod, wide(*method));
             }
-            Call::Secret { given, kem, .. } => {
+            Call::Secret { given, kem, k_pq, .. } => {
                 self.add(Sight::WideGiven, wide(*given));
                 self.add(Sight::WideKem, wide(*kem));
+                let alone = *given != 1 && *kem == 2;
+                self.add(Sight::KemAlone, alone && k_pq.len() == plain::K_PQ && number == 16);
+                self.add(Sight::KemWithout, alone && k_pq.is_empty() && number == 4);
             }
             Call::Verdict { signature, host_key, .. } => {
                 self.add(Sight::WideSignature, wide(*signature));
@@ -352,6 +364,7 @@ pub fn list(seed: u64, index: u64, core: &mut Lent, tally: &mut Tally, seen: &mu
             .or_else(|| differs("room", core.room.bytes(), &model.room))
             .or_else(|| differs("output", core.out.bytes(), &model.out))
             .or_else(|| differs("K output", core.k_out.bytes(), &model.k_out))
+            .or_else(|| differs("H", core.h.bytes(), &model.h))
             .or_else(|| core.written_to(&call).map(|i| format!("input {} was written to", i + 1)));
         if let Some(what) = what {
             return Err(format!("seed {}, list {}, call {}: {:?}\n{}", seed, index, i, call, what));

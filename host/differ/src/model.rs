@@ -1,7 +1,7 @@
 //! The plain implementation behind the boundary: document 01's answer to a call, told as the header says.
 use crate::calls::Call;
 use crate::stored::{bytes_of, exchange_of, forge, numbers_of, EXCHANGE};
-use plain::{Answer, Classical, Exchange, Kem, Part};
+use plain::{Answer, Classical, Exchange, Kem, Part, H};
 
 /// What a call gave, on either side: its number, what it told through lent numbers, what the calls of their own for the four
 /// parts of a payload gave (number, start and length of each), and the state after it.
@@ -20,6 +20,7 @@ pub struct Side {
     pub room: Vec<u8>,
     pub out: Vec<u8>,
     pub k_out: Vec<u8>,
+    pub h: Vec<u8>,
     /// A room to try a step in.
     tried: Vec<u8>,
 }
@@ -59,6 +60,7 @@ impl Side {
     fn before(&mut self, call: &Call) {
         self.out.clear();
         self.k_out.clear();
+        self.h.clear();
         match call {
             Call::Room(f) => self.room = f.bytes(),
             Call::Poke(at, bytes) => self.room[*at..at + bytes.len()].copy_from_slice(bytes),
@@ -70,6 +72,8 @@ impl Side {
                 self.k_out = k_out.bytes();
             }
             Call::Verdict { k_out, .. } => self.k_out = k_out.bytes(),
+            // every answer writes it; where there is no exchange it is zeros too
+            Call::Secret { .. } => self.h = vec![0; H],
             _ => {}
         }
     }
@@ -138,9 +142,11 @@ impl Side {
                 parts = plain::reply_parts(&e, room, p);
                 plain::read_reply(e, room, p)
             }
-            Call::Secret { given, x_count, x, kem, digest, ks, s } => {
+            Call::Secret { given, x_count, x, kem, k_pq, ks, s } => {
                 let classical = if *given == 1 { Classical::Given(*x_count as usize) } else { Classical::Failed };
-                plain::take_secret(e, room, classical, x, kem_of(e.method, *kem), digest, ks, s)
+                let a = plain::take_secret(e, room, classical, x, kem_of(e.method, *kem), k_pq, ks, s);
+                self.h.copy_from_slice(&a.h);
+                a
             }
             Call::Sign { signature, .. } => plain::sign(e, room, signature, &mut self.out, &mut self.k_out),
             Call::Verdict { signature, host_key, .. } => plain::verdict(e, room, *signature == 1, *host_key == 1, &mut self.k_out),

@@ -4,6 +4,7 @@
 
 use crate::kexinit::{KEXINIT, PAYLOAD_MAX as I_MAX};
 use crate::methods::{self, Method};
+use crate::sha2::{hash_of, DIGEST};
 use crate::wire::{put_string, string_at, Part};
 
 /// Eight lengths, two V, two I, K_S, the longest C and S, and the K that goes with them.
@@ -11,6 +12,9 @@ pub const ROOM: usize = 32 + 506 + 8_192 + 2_048 + 3_330 + 48;
 pub const INIT_OUT: usize = 1_670;
 pub const REPLY_OUT: usize = 5_774;
 pub const K_RECORD: usize = 71;
+pub const K_PQ: usize = 32;
+/// H as it is handed out, zeros after the digest.
+pub const H: usize = DIGEST;
 
 const CLIENT: u8 = 1;
 const SERVER: u8 = 2;
@@ -59,13 +63,21 @@ impl Default for Exchange {
     }
 }
 
-#[derive(Clone, Copy, PartialEq, Eq, Debug, Default)]
+#[derive(Clone, Copy, PartialEq, Eq, Debug)]
 pub struct Answer {
     pub number: u8,
     pub count: usize,
     /// K's length at the signature step, which counts REPLY first.
     pub second: usize,
+    /// H at the secret step, all zeros on a refusal.
+    pub h: [u8; H],
     pub exchange: Exchange,
+}
+
+impl Default for Answer {
+    fn default() -> Self {
+        Answer { number: 0, count: 0, second: 0, h: [0; H], exchange: Exchange::default() }
+    }
 }
 
 /// The classical primitive either failed or gave a stated number of bytes.
@@ -83,12 +95,12 @@ pub enum Kem {
 }
 
 fn accepted(count: usize, exchange: Exchange) -> Answer {
-    Answer { number: 0, count, second: 0, exchange }
+    Answer { number: 0, count, second: 0, h: [0; H], exchange }
 }
 
 /// A refusal that is no peer fault: nothing changes.
 fn unchanged(number: u8, exchange: Exchange) -> Answer {
-    Answer { number, count: 0, second: 0, exchange }
+    Answer { number, count: 0, second: 0, h: [0; H], exchange }
 }
 
 /// A peer fault fills the whole room and the K record with zeros and fails the exchange for good, recorded lengths 0.
@@ -315,7 +327,7 @@ fn judge_outcomes(
     classical: Classical,
     x: &[u8],
     kem: Kem,
-    digest: &[u8],
+    k_pq: &[u8],
     own_fields_are_good: bool,
 ) -> Result<(), u8> {
     let x_is_good = match classical {
@@ -323,9 +335,9 @@ fn judge_outcomes(
         Classical::Failed => true, // no stated byte count, no further look at X
     };
     let kem_is_good = row.hybrid != (kem == Kem::Absent);
-    let both_done = classical != Classical::Failed && kem == Kem::Done;
-    let digest_len = if row.hybrid && both_done { row.digest_len } else { 0 };
-    if !x_is_good || !kem_is_good || digest.len() != digest_len || !own_fields_are_good {
+    // by the KEM alone, whatever the classical outcome
+    let k_pq_len = if kem == Kem::Done { K_PQ } else { 0 };
+    if !x_is_good || !kem_is_good || k_pq.len() != k_pq_len || !own_fields_are_good {
         return Err(4);
     }
     let x_is_zero = || x.iter().fold(0, |seen, byte| seen | byte) == 0;
@@ -338,11 +350,13 @@ fn judge_outcomes(
     Ok(())
 }
 
-/// K in its form: a hybrid's is the digest as a string, another's is X, read as an unsigned big-endian number, as an
-/// mpint. Answers the record and K's length in it.
-fn k_record(row: &Method, x: &[u8], digest: &[u8]) -> ([u8; K_RECORD], usize) {
+/// K in its form: a hybrid's is the digest of K_PQ and then X as a string, another's is X, read as an unsigned
+/// big-endian number, as an mpint. Answers the record and K's length in it.
+fn k_record(row: &Method, x: &[u8], k_pq: &[u8]) -> ([u8; K_RECORD], usize) {
+    let digest;
     let (body, lead) = if row.hybrid {
-        (digest, 0)
+        digest = hash_of(row.digest_len, [k_pq, x]);
+        (&digest[..row.digest_len], 0)
     } else {
         let zeros = x.iter().take_while(|&&byte| byte == 0).count();
         let body = &x[zeros..];
@@ -355,7 +369,7 @@ fn k_record(row: &Method, x: &[u8], digest: &[u8]) -> ([u8; K_RECORD], usize) {
     (k, 4 + len)
 }
 
-/// The secret step: a server brings K_S and its own S with it; a client's are not looked at.
+/// The secret step, which hands out H: a server brings K_S and its own S with it; a client's are not looked at.
 #[allow(clippy::too_many_arguments)]
 pub fn take_secret(
     e: Exchange,
@@ -363,7 +377,7 @@ pub fn take_secret(
     classical: Classical,
     x: &[u8],
     kem: Kem,
-    digest: &[u8],
+    k_pq: &[u8],
     ks: &[u8],
     s: &[u8],
 ) -> Answer {
@@ -374,7 +388,7 @@ pub fn take_secret(
     };
     let own_fields_are_good =
         role == CLIENT || (k_s_len_is_good(ks.len()) && s.len() == row.s_len && row.s_lead_is_good(s));
-    if let Err(number) = judge_outcomes(row, classical, x, kem, digest, own_fields_are_good) {
+    if let Err(number) = judge_outcomes(row, classical, x, kem, k_pq, own_fields_are_good) {
         return refused(number, e, room);
     }
 
@@ -382,13 +396,14 @@ pub fn take_secret(
     if role == SERVER {
         add_k_s_and_s(&mut next, room, ks, s);
     }
-    let (k, k_len) = k_record(row, x, digest);
+    let (k, k_len) = k_record(row, x, k_pq);
     let at = next.lens.iter().map(|len| 4 + len).sum();
     let count = at + k_len;
     room[at..count].copy_from_slice(&k[..k_len]);
     next.k = k;
     next.stage = Stage::Secret;
-    accepted(count, next)
+    // over the bytes that stand there, whoever wrote them
+    Answer { h: hash_of(row.digest_len, [&room[..count], &[]]), ..accepted(count, next) }
 }
 
 /// Writes K in the last step: the output gets all 71 bytes of the record, and the count is K's own length in it.
@@ -417,7 +432,7 @@ pub fn sign(e: Exchange, room: &[u8], signature: &[u8], out: &mut [u8], k_out: &
     let at = put_string(out, at, s.of(room));
     let count = put_string(out, at, signature);
     let second = write_k(&e.k, k_out);
-    Answer { number: 0, count, second, exchange: Exchange { stage: Stage::Complete, ..e } }
+    Answer { second, ..accepted(count, Exchange { stage: Stage::Complete, ..e }) }
 }
 
 /// The client's verdict, two yes/no, which writes K.

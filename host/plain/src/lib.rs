@@ -1,4 +1,4 @@
-//! Document 01 in plain Rust: a second implementation, to hold another one against.
+//! Document 01 in plain Rust, with what has landed of document 02: a second implementation, to hold another one against.
 //!
 //! Everything works on lent slices: nothing is allocated, and nothing panics whatever is handed in. The files
 //! stand in the document's order.
@@ -10,13 +10,15 @@ mod choice;
 mod exchange;
 mod kexinit;
 mod methods;
+mod sha2;
 mod wire;
 
 pub use choice::{choose, Choice};
 pub use exchange::{
     init_c, own_c, read_init, read_reply, reply_parts, sign, start, take_secret, verdict, Answer, Classical, Exchange,
-    Kem, Stage, INIT_OUT, K_RECORD, REPLY_OUT, ROOM,
+    Kem, Stage, H, INIT_OUT, K_PQ, K_RECORD, REPLY_OUT, ROOM,
 };
 pub use kexinit::{list_is_good, next_name, open_list, write_kexinit, Cursor, Next, Opened};
 pub use methods::{method, method_number, Method};
+pub use sha2::{hash_start, Hash, DIGEST, HASH_BYTES, HASH_MOST};
 pub use wire::{read_mpint, read_string, write_mpint, write_string, MpintRead, Part, StringRead, Written};

@@ -7,7 +7,7 @@ pub struct Method {
     pub s_len: usize,
     pub x_len: usize,
     pub digest_len: usize,
-    /// K is the digest as a string; otherwise it is X as an mpint.
+    /// K is the digest of K_PQ and X as a string; otherwise it is X as an mpint.
     pub hybrid: bool,
     pub zero_check: bool,
     /// The classical part is a NIST point.

@@ -106,18 +106,20 @@ fn an_exchange_as_client_and_as_server() {
                   secret G32 01*32 a - 6b 09*32\nsign 73 00*5774 ff*72\n";
     let s = "09".repeat(32);
     let c = "07".repeat(32);
+    // SHA-256 of the eight strings below, and zeros
+    let h = format!("224c24eaad8e6aada9dcd74ba9747f1fd8948b5b6ac3c9bc236f33d0b2446252{}", "0".repeat(64));
     let lines = answers(script);
     let starts = [
         "0 | ex 0.0.failed.0.0,0,0,0,0,0,0 k=".to_string(),
         "0 | ex 1.1.started.0.1,1,1,2,0,0,0 k=".to_string(),
         "0 37 out=1670:".to_string(),
         format!("0 5:6b 10:{s} 46:73 | ex 1.1.reply.0.1,1,1,2,1,32,32 k="),
-        "0 134 | ex 1.1.secret.0.1,1,1,2,1,32,32 k=".to_string(),
+        format!("0 134 {h} | ex 1.1.secret.0.1,1,1,2,1,32,32 k="),
         "0 36 out=71:".to_string(),
         "1 0 out=71:".to_string(),
         "0 | ex 2.1.started.0.1,1,1,2,0,0,0 k=".to_string(),
         format!("0 5:{c} | ex 2.1.init.0.1,1,1,2,0,32,0 k="),
-        "0 134 | ex 2.1.secret.0.1,1,1,2,1,32,32 k=".to_string(),
+        format!("0 134 {h} | ex 2.1.secret.0.1,1,1,2,1,32,32 k="),
         "0 47 36 out=5774:".to_string(),
     ];
     assert_eq!(lines.len(), starts.len());
@@ -137,6 +139,45 @@ fn an_exchange_as_client_and_as_server() {
     assert_eq!(lines[5], format!("0 36 {k_out} | ex 1.1.complete.0.1,1,1,2,1,32,32{tail}"));
     k.push(0xff);
     assert!(lines[10].contains(&format!("out=72:{}", digest(&k))));
+}
+
+#[test]
+fn a_hash_between_lines() {
+    let zeros = "0".repeat(128);
+    let abc = format!("0 ba7816bf8f01cfea414140de5dae2223b00361a396177a9cb410ff61f20015ad{}", "0".repeat(64));
+    let script = "finish\nfeed -\nsha 32\nfeed 6162\nfeed 63\nfinish\nfeed -\nfinish\nfeed 61*65534\nsha 47\nfeed 61\n\
+                  finish\nsha 64\nfeed 61*129\nshaset tail 129\nfeed -\nshaset tail 18446744073709551615\n\
+                  shaset total 18446744073709551615\nfinish\nshaset kind 255\nfinish\nsha 48\nfeed 00*65537\n\
+                  feed 00*65536\nfeed -\nfeed 00\n";
+    let expected = [
+        &format!("4 {zeros}"),
+        "4 0.0.0",
+        "0 32.0.0",
+        "0 32.2.2",
+        "0 32.3.3",
+        &abc,
+        "0 32.3.3",
+        &abc,
+        "4 32.3.3",
+        "4 0.0.0",
+        "4 0.0.0",
+        &format!("4 {zeros}"),
+        "0 64.0.0",
+        "0 64.129.1",
+        "0 64.129.129",
+        "4 64.129.129",
+        "0 64.129.18446744073709551615",
+        "0 64.18446744073709551615.18446744073709551615",
+        &format!("4 {zeros}"),
+        "0 255.18446744073709551615.18446744073709551615",
+        &format!("4 {zeros}"),
+        "0 48.0.0",
+        "4 48.0.0",
+        "0 48.65536.0",
+        "0 48.65536.0",
+        "4 48.65536.0",
+    ];
+    assert_eq!(answers(script), expected);
 }
 
 #[test]
@@ -222,6 +263,16 @@ fn bad_lines() {
         "secret X - a - - -",
         "secret G - a - - -",
         "secret F - x - - -",
+        "sha",
+        "sha 256",
+        "sha -",
+        "feed",
+        "feed 0",
+        "finish 1",
+        "shaset kind",
+        "shaset kind 256",
+        "shaset total 18446744073709551616",
+        "shaset held 0",
         "verdict 2 0 -",
         "verdict 0 yes -",
         "next 1",

@@ -51,12 +51,26 @@ fn kem(number: u8) -> Kem {
     }
 }
 
-fn digest(number: u8) -> Vec<u8> {
+fn k_pq(number: u8) -> Vec<u8> {
     if row(number).hybrid {
-        (0..row(number).digest_len).map(|at| 0xe0 ^ at as u8).collect()
+        (0..32).map(|at| 0xe0 ^ at).collect()
     } else {
         vec![]
     }
+}
+
+/// The method's hash of parts joined.
+fn hashed(number: u8, parts: &[&[u8]]) -> Vec<u8> {
+    let (_, mut hash) = hash_start(row(number).digest_len as u8);
+    assert_eq!(hash.feed(&parts.concat()), 0);
+    hash.finish().1[..row(number).digest_len].to_vec()
+}
+
+/// H as it is handed out: zeros after the digest.
+fn is_h(answer: &Answer, number: u8, room: &[u8]) {
+    let mut h = hashed(number, &[&room[..answer.count]]);
+    h.resize(H, 0);
+    assert_eq!(answer.h[..], h);
 }
 
 fn started(role: u8, number: u8, room: &mut [u8]) -> Exchange {
@@ -84,7 +98,7 @@ fn k_of(number: u8, x: &[u8]) -> Result<Vec<u8>, u8> {
     let mut room = vec![0; ROOM];
     let e = server_at_init(number, &mut room);
     let given = Classical::Given(x.len());
-    let answer = take_secret(e, &mut room, given, x, kem(number), &digest(number), b"key", &s_value(number));
+    let answer = take_secret(e, &mut room, given, x, kem(number), &k_pq(number), b"key", &s_value(number));
     if answer.number != 0 {
         return Err(answer.number);
     }
@@ -92,6 +106,7 @@ fn k_of(number: u8, x: &[u8]) -> Result<Vec<u8>, u8> {
     let len = 4 + u32::from_be_bytes(k[..4].try_into().unwrap()) as usize;
     assert!(k[len..].iter().all(|&byte| byte == 0));
     assert_eq!(&room[answer.count - len..answer.count], &k[..len]);
+    is_h(&answer, number, &room);
     Ok(k[..len].to_vec())
 }
 
@@ -430,7 +445,8 @@ fn client_and_server_agree_in_every_method() {
         let (c, s) = (c_value(number), s_value(number));
         let (k_s, signature) = (vec![0x4b; 51], vec![0x51; 83]);
         let x: Vec<u8> = (0..row.x_len).map(|at| 0x80 | at as u8).collect();
-        let k = if row.hybrid { string(&digest(number)) } else { string(&[&[0], &x[..]].concat()) };
+        let k =
+            if row.hybrid { string(&hashed(number, &[&k_pq(number), &x])) } else { string(&[&[0], &x[..]].concat()) };
         let given = Classical::Given(row.x_len);
         let fields = |fields: &[&[u8]]| fields.iter().flat_map(|field| string(field)).collect::<Vec<u8>>();
 
@@ -462,8 +478,9 @@ fn client_and_server_agree_in_every_method() {
         let server = answer.exchange;
 
         let hash = [fields(&[V_C, V_S, I_C, I_S, &k_s, &c, &s]), k.clone()].concat();
-        let answer = take_secret(server, &mut server_room, given, &x, kem(number), &digest(number), &k_s, &s);
+        let answer = take_secret(server, &mut server_room, given, &x, kem(number), &k_pq(number), &k_s, &s);
         assert_eq!((answer.number, answer.count), (0, hash.len()));
+        is_h(&answer, number, &hash);
         check(&server_room, &hash, 0x5e);
         let server = answer.exchange;
 
@@ -489,8 +506,9 @@ fn client_and_server_agree_in_every_method() {
         let client = answer.exchange;
 
         // K_S and S handed in by a client are not looked at.
-        let answer = take_secret(client, &mut client_room, given, &x, kem(number), &digest(number), b"", b"?");
+        let answer = take_secret(client, &mut client_room, given, &x, kem(number), &k_pq(number), b"", b"?");
         assert_eq!((answer.number, answer.count), (0, hash.len()));
+        is_h(&answer, number, &hash);
         check(&client_room, &hash, 0xc1);
         let client = answer.exchange;
         assert_eq!(client.lens, server.lens);
@@ -513,25 +531,26 @@ fn the_longest_exchange_fills_the_room() {
     let message = init(&c_value(8));
     assert_eq!(message.len(), INIT_OUT);
     let e = read_init(e, &mut room, &message).exchange;
-    let answer = take_secret(e, &mut room, Classical::Given(48), &[0; 48], Kem::Done, &digest(8), &k_s, &s_value(8));
+    let answer = take_secret(e, &mut room, Classical::Given(48), &[0; 48], Kem::Done, &k_pq(8), &k_s, &s_value(8));
     assert_eq!((answer.number, answer.count), (0, ROOM));
     let answer = sign(answer.exchange, &room, &[2; 2048], &mut [0; REPLY_OUT], &mut [0; K_RECORD]);
     assert_eq!((answer.number, answer.count, answer.second), (0, REPLY_OUT, 52));
 
     let e = Exchange { k: answer.exchange.k, ..e };
-    assert_eq!(take_secret(e, &mut room, Classical::Given(48), &[0; 48], Kem::Done, &digest(8), &[], &[]).number, 4);
+    assert_eq!(take_secret(e, &mut room, Classical::Given(48), &[0; 48], Kem::Done, &k_pq(8), &[], &[]).number, 4);
     let k = k_of(6, &[0xff; 66]).unwrap();
     assert_eq!(k.len(), K_RECORD);
 }
 
 /// The answers of the secret step, as a server and as a client where K_S and S are right.
-fn secret(number: u8, classical: Classical, x: &[u8], kem: Kem, digest: &[u8], k_s: &[u8], s: &[u8]) -> u8 {
+fn secret(number: u8, classical: Classical, x: &[u8], kem: Kem, k_pq: &[u8], k_s: &[u8], s: &[u8]) -> u8 {
     let mut room = vec![0x3c; ROOM];
     let e = server_at_init(number, &mut room);
     let before = room.clone();
-    let answer = take_secret(e, &mut room, classical, x, kem, digest, k_s, s);
+    let answer = take_secret(e, &mut room, classical, x, kem, k_pq, k_s, s);
+    assert!(answer.number == 0 || answer.h == [0; H]);
     match answer.number {
-        0 => {}
+        0 => is_h(&answer, number, &room),
         1..=9 => assert!(room == before && answer.exchange == e && answer.count == 0),
         fault => {
             assert!(room.iter().all(|&byte| byte == 0));
@@ -542,8 +561,8 @@ fn secret(number: u8, classical: Classical, x: &[u8], kem: Kem, digest: &[u8], k
     if k_s == b"key" && s == s_value(number) {
         let e = client_at_own_c(number, &mut room);
         let e = read_reply(e, &mut room, &reply(k_s, s, b"signature")).exchange;
-        let client = take_secret(e, &mut room, classical, x, kem, digest, b"", b"");
-        assert_eq!((client.number, client.count), (answer.number, answer.count));
+        let client = take_secret(e, &mut room, classical, x, kem, k_pq, b"", b"");
+        assert_eq!((client.number, client.count, client.h), (answer.number, answer.count, answer.h));
     }
     answer.number
 }
@@ -552,34 +571,41 @@ fn secret(number: u8, classical: Classical, x: &[u8], kem: Kem, digest: &[u8], k
 fn outcomes_in_their_order() {
     use Classical::{Failed, Given};
     let x = [7; 32];
-    let (s1, s7, s9) = (s_value(1), s_value(7), s_value(9));
-    let d = [3; 32];
+    let (s1, s7, s8, s9) = (s_value(1), s_value(7), s_value(8), s_value(9));
+    let q = [3; 33];
+    let (d, long) = (&q[..32], &q[..]);
     assert_eq!(secret(1, Given(32), &x, Kem::Absent, &[], b"key", &s1), 0);
     assert_eq!(secret(1, Given(31), &x, Kem::Absent, &[], b"key", &s1), 4);
     assert_eq!(secret(1, Given(32), &x[1..], Kem::Absent, &[], b"key", &s1), 4);
     assert_eq!(secret(1, Given(31), &x[1..], Kem::Absent, &[], b"key", &s1), 4);
     assert_eq!(secret(1, Given(usize::MAX), &x, Kem::Absent, &[], b"key", &s1), 4);
     assert_eq!(secret(1, Given(32), &x, Kem::Done, &[], b"key", &s1), 4);
+    assert_eq!(secret(1, Given(32), &x, Kem::Done, d, b"key", &s1), 4);
     assert_eq!(secret(1, Given(32), &x, Kem::Failed, &[], b"key", &s1), 4);
-    assert_eq!(secret(1, Given(32), &x, Kem::Absent, &d, b"key", &s1), 4);
+    assert_eq!(secret(1, Given(32), &x, Kem::Absent, d, b"key", &s1), 4);
     assert_eq!(secret(1, Failed, &x[..5], Kem::Absent, &[], b"key", &s1), 16);
-    assert_eq!(secret(1, Failed, &[], Kem::Absent, &d, b"key", &s1), 4);
+    assert_eq!(secret(1, Failed, &[], Kem::Absent, d, b"key", &s1), 4);
     assert_eq!(secret(1, Failed, &[], Kem::Failed, &[], b"key", &s1), 4);
     assert_eq!(secret(1, Failed, &[], Kem::Absent, &[], b"", &s1), 4);
     assert_eq!(secret(1, Failed, &[], Kem::Absent, &[], b"key", &s1[1..]), 4);
     assert_eq!(secret(1, Given(32), &[0; 32], Kem::Absent, &[], &[1; 2049], &s1), 4);
     assert_eq!(secret(1, Given(32), &[0; 32], Kem::Absent, &[], &[1; 2048], &s1), 16);
-    assert_eq!(secret(7, Given(32), &[0; 32], Kem::Done, &d, b"key", &s7), 0);
-    assert_eq!(secret(7, Given(32), &x, Kem::Absent, &d, b"key", &s7), 4);
-    assert_eq!(secret(7, Given(32), &x, Kem::Failed, &d, b"key", &s7), 4);
+    assert_eq!(secret(7, Given(32), &[0; 32], Kem::Done, d, b"key", &s7), 0);
+    assert_eq!(secret(7, Given(32), &x, Kem::Absent, d, b"key", &s7), 4);
+    assert_eq!(secret(7, Given(32), &x, Kem::Failed, d, b"key", &s7), 4);
     assert_eq!(secret(7, Given(32), &x, Kem::Failed, &[], b"key", &s7), 17);
     assert_eq!(secret(7, Failed, &x, Kem::Failed, &[], b"key", &s7), 16);
-    assert_eq!(secret(7, Failed, &x, Kem::Done, &d, b"key", &s7), 4);
-    assert_eq!(secret(7, Failed, &x, Kem::Done, &[], b"key", &s7), 16);
+    assert_eq!(secret(7, Failed, &x, Kem::Failed, d, b"key", &s7), 4);
+    // K_PQ goes by the KEM alone, whatever the classical outcome
+    assert_eq!(secret(7, Failed, &x, Kem::Done, &[], b"key", &s7), 4);
+    assert_eq!(secret(7, Failed, &x, Kem::Done, d, b"key", &s7), 16);
     assert_eq!(secret(7, Given(32), &x, Kem::Done, &d[1..], b"key", &s7), 4);
-    assert_eq!(secret(7, Given(32), &x, Kem::Done, &d, b"key", &vec![5; 1153]), 4);
+    assert_eq!(secret(7, Given(32), &x, Kem::Done, long, b"key", &s7), 4);
+    assert_eq!(secret(8, Given(48), &[1; 48], Kem::Done, &[3; 48], b"key", &s8), 4);
+    assert_eq!(secret(8, Given(48), &[1; 48], Kem::Done, d, b"key", &s8), 0);
+    assert_eq!(secret(7, Given(32), &x, Kem::Done, d, b"key", &vec![5; 1153]), 4);
     assert_eq!(secret(9, Given(32), &[0; 32], Kem::Done, &[], b"key", &s9), 4);
-    assert_eq!(secret(9, Given(32), &[0; 32], Kem::Done, &d, b"key", &s9), 16);
+    assert_eq!(secret(9, Given(32), &[0; 32], Kem::Done, d, b"key", &s9), 16);
     assert_eq!(secret(9, Given(32), &[0; 32], Kem::Failed, &[], b"key", &s9), 16);
 }
 
@@ -613,7 +639,7 @@ fn client_at_secret(number: u8, room: &mut [u8]) -> Exchange {
     let e = client_at_own_c(number, room);
     let e = read_reply(e, room, &reply(b"key", &s_value(number), b"signature")).exchange;
     let x = vec![0x11; row(number).x_len];
-    let answer = take_secret(e, room, Classical::Given(x.len()), &x, kem(number), &digest(number), b"", b"");
+    let answer = take_secret(e, room, Classical::Given(x.len()), &x, kem(number), &k_pq(number), b"", b"");
     assert_eq!(answer.number, 0);
     answer.exchange
 }
@@ -660,7 +686,9 @@ fn bytes_are_taken_as_they_stand() {
     let e = server_at_init(1, &mut room);
     let at = 16 + V_C.len() + V_S.len() + I_C.len() + I_S.len();
     room[at..at + 36].fill(0xee);
-    let e = take_secret(e, &mut room, Classical::Given(32), &[1; 32], Kem::Absent, &[], b"key", &s_value(1)).exchange;
+    let answer = take_secret(e, &mut room, Classical::Given(32), &[1; 32], Kem::Absent, &[], b"key", &s_value(1));
+    let e = answer.exchange;
+    is_h(&answer, 1, &room);
     assert_eq!(room[at..at + 7], *b"\0\0\0\x03key");
     assert_eq!(room[at + 7..at + 43], [0xee; 36]);
     room[at..at + 7].fill(0xdd);
@@ -686,7 +714,7 @@ fn no_step_is_due(e: Exchange) {
     assert_eq!(read_init(e, &mut room, &init(&c)), refused);
     assert_eq!(reply_parts(&e, &room, &message), [NOTHING; 3]);
     assert_eq!(read_reply(e, &mut room, &message), refused);
-    assert_eq!(take_secret(e, &mut room, given, &x, kem(number), &digest(number), b"key", &s), refused);
+    assert_eq!(take_secret(e, &mut room, given, &x, kem(number), &k_pq(number), b"key", &s), refused);
     assert_eq!(sign(e, &room, b"signature", &mut out, &mut k_out), refused);
     assert_eq!(verdict(e, &mut room, true, true, &mut k_out), refused);
     assert!(room == fresh && out == [2; REPLY_OUT] && k_out == [2; K_RECORD]);
@@ -830,8 +858,7 @@ fn no_record_and_no_payload_makes_a_step_panic() {
         let outcome = if any.below(9) == 0 { Classical::Failed } else { Classical::Given(odd(&mut any, row.x_len)) };
         let usual = if row.hybrid { Kem::Done } else { Kem::Absent };
         let kem = if any.below(4) > 0 { usual } else { [Kem::Done, Kem::Absent, Kem::Failed][any.below(3)] };
-        let no_digest = kem != Kem::Done || outcome == Classical::Failed;
-        let digest = vec![5; if no_digest == (any.below(9) > 0) { 0 } else { row.digest_len }];
+        let k_pq = vec![5; if (kem == Kem::Done) == (any.below(9) > 0) { K_PQ } else { 0 }];
 
         let answer = match step {
             0 => own_c(e, &mut room, &c, &mut out),
@@ -847,12 +874,12 @@ fn no_record_and_no_payload_makes_a_step_panic() {
                 assert_eq!(parts != [NOTHING; 3], answer.number == 0);
                 answer
             }
-            3 => take_secret(e, &mut room, outcome, &x, kem, &digest, b"key", &s),
+            3 => take_secret(e, &mut room, outcome, &x, kem, &k_pq, b"key", &s),
             4 => sign(e, &room, b"signature", &mut out, &mut k_out),
             _ => verdict(e, &mut room, any.below(3) > 0, any.below(3) > 0, &mut k_out),
         };
         if answer.number != 0 {
-            assert_eq!((answer.count, answer.second), (0, 0));
+            assert_eq!((answer.count, answer.second, answer.h), (0, 0, [0; H]));
             assert!(out.iter().chain(&k_out).all(|&byte| byte == 1));
         }
         match answer.number {

@@ -1,9 +1,8 @@
 //! captures FOLDER: every captured exchange through the boundary: both KEXINITs read and written again, the choice, and in both
-//! roles every step, the messages, K, the hash input, and H.
-use castulfrisa::{choose, open_list, raw, same_version, write_kexinit, EXCHANGE, INIT, REPLY, ROOM};
+//! roles every step, the messages, K, the hash input, and H. Of the primitives' outputs X and K_PQ alone are handed in.
+use castulfrisa::{choose, open_list, raw, same_version, write_kexinit, EXCHANGE, H_SIZE, INIT, REPLY, ROOM};
 use castulfrisa::{Classical, Client, Greeting, Kem, List, Method, Own, Refusal, Role, Server, Stopped, K};
 use differ::lists::PartEntry;
-use differ::sha2::digest;
 use differ::stored::bytes_of;
 use plain::Stage;
 use std::collections::HashMap;
@@ -150,12 +149,14 @@ fn stepped(c: &Capture, role: Role, method: Method, room: usize) -> Result<(), S
     let field = |name| c.bytes(name);
     let fields = [field("V_C")?, field("V_S")?, field("I_C")?, field("I_S")?, field("K_S")?, field("C")?, field("S")?];
     let [vc, vs, ic, is, ks, value_c, value_s] = fields.clone();
-    let (x, digest, k) = (field("X")?, field("digest")?, field("K")?);
+    let (x, k_pq, k) = (field("X")?, field("K_PQ")?, field("K")?);
     let (init, reply, signature) = (field("INIT")?, field("REPLY")?, field("signature")?);
-    let kem = if digest.is_empty() { 0 } else { 2 };
+    let kem = if k_pq.is_empty() { 0 } else { 2 };
+    let mut h_due = field("H")?;
+    h_due.resize(H_SIZE, 0);
     let hashed = c.word("hash_input_length")?.parse().map_err(|_| "hash_input_length")?;
     let mut s = Steps { role, method, fields, room: vec![LENT; room], exchange: [LENT; EXCHANGE] };
-    let (mut out, mut k_out, mut count) = (vec![LENT; 6000], [LENT; K::SIZE + 4], 0);
+    let (mut out, mut k_out, mut count, mut h) = (vec![LENT; 6000], [LENT; K::SIZE + 4], 0, [LENT; H_SIZE]);
 
     let n = raw::start(&mut s.exchange, role as u64, method.number(), &vc, &vs, &ic, &is, &mut s.room);
     s.after("start", n, Stage::Started, V_AND_I, b"")?;
@@ -184,9 +185,10 @@ fn stepped(c: &Capture, role: Role, method: Method, room: usize) -> Result<(), S
             }
         }
 
-        let n = raw::take_secret(&mut s.exchange, &mut s.room, 1, x_count, &x, kem, &digest, b"", b"", &mut count);
+        let n = raw::take_secret(&mut s.exchange, &mut s.room, 1, x_count, &x, kem, &k_pq, b"", b"", &mut count, &mut h);
         s.after("secret", n, Stage::Secret, ALL, &k)?;
         counted("the hash input", count, hashed)?;
+        held("H", &h, &h_due)?;
         let n = raw::verdict(&mut s.exchange, &mut s.room, 1, 1, &mut k_out, &mut count);
         s.after("verdict", n, Stage::Complete, ALL, &k)?;
         counted("K", count, k.len())?;
@@ -201,9 +203,10 @@ fn stepped(c: &Capture, role: Role, method: Method, room: usize) -> Result<(), S
             asked("C of INIT", n, part, want)?;
         }
 
-        let n = raw::take_secret(&mut s.exchange, &mut s.room, 1, x_count, &x, kem, &digest, &ks, &value_s, &mut count);
+        let n = raw::take_secret(&mut s.exchange, &mut s.room, 1, x_count, &x, kem, &k_pq, &ks, &value_s, &mut count, &mut h);
         s.after("secret", n, Stage::Secret, ALL, &k)?;
         counted("the hash input", count, hashed)?;
+        held("H", &h, &h_due)?;
         let mut counts = raw::Signed::default();
         let n = raw::sign(&mut s.exchange, &s.room, &signature, &mut out, &mut k_out, &mut counts);
         s.after("signature", n, Stage::Complete, ALL, &k)?;
@@ -223,10 +226,9 @@ fn wrapped(c: &Capture, method: Method) -> Result<(Role, usize), String> {
     let (ic, is) = (c.bytes("I_C")?, c.bytes("I_S")?);
     let (vc, vs) = (c.bytes("V_C")?, c.bytes("V_S")?);
     let (ks, value_c, value_s) = (c.bytes("K_S")?, c.bytes("C")?, c.bytes("S")?);
-    let (x, hybrid_digest) = (c.bytes("X")?, c.bytes("digest")?);
+    let (x, k_pq) = (c.bytes("X")?, c.bytes("K_PQ")?);
     let (init, reply, signature) = (c.bytes("INIT")?, c.bytes("REPLY")?, c.bytes("signature")?);
-    let sizes = method.sizes();
-    let (x, kem) = (Classical::Given(&x), if sizes.hybrid { Kem::Done } else { Kem::Absent });
+    let (x, kem) = (Classical::Given(&x), if method.sizes().hybrid { Kem::Done(&k_pq) } else { Kem::Absent });
     let greeting = Greeting { vc: &vc, vs: &vs, ic: &ic, is: &is };
 
     let mut want = Vec::new();
@@ -237,7 +239,7 @@ fn wrapped(c: &Capture, method: Method) -> Result<(Role, usize), String> {
     want.extend(c.bytes("K")?);
     held("its length", want.len().to_string().as_bytes(), c.word("hash_input_length")?.as_bytes())?;
     let h = c.bytes("H")?;
-    let hashed = |input: &[u8]| held("the hash input", input, &want).and_then(|()| held("H", &digest(sizes.digest_len, input), &h));
+    let hashed = |input: &[u8], of: &[u8]| held("the hash input", input, &want).and_then(|()| held("H", of, &h));
 
     let (mut exchange, mut room) = ([LENT; EXCHANGE], vec![LENT; ROOM]);
     let mut k = K::new();
@@ -252,22 +254,22 @@ fn wrapped(c: &Capture, method: Method) -> Result<(Role, usize), String> {
             held("K_S", read.host_key, &ks)?;
             held("S", read.s, &value_s)?;
             held("the signature", read.signature, &signature)?;
-            let e = e.take_secret(x, kem, &hybrid_digest).map_err(told("secret"))?;
-            hashed(e.hash_input())?;
+            let e = e.take_secret(x, kem).map_err(told("secret"))?;
+            hashed(e.hash_input(), e.h())?;
             let e = e.verdict(true, true, &mut k).map_err(told("verdict"))?;
-            hashed(e.hash_input())?;
+            hashed(e.hash_input(), e.h())?;
         }
         Role::Server => {
             let e = Server::start(method, greeting, &mut exchange, &mut room).map_err(|r| format!("start: {}", r))?;
             let (e, read) = e.read_init(&init).map_err(told("INIT"))?;
             held("C", read, &value_c)?;
             let own = Own { host_key: &ks, s: &value_s };
-            let e = e.take_secret(x, kem, &hybrid_digest, own).map_err(told("secret"))?;
-            hashed(e.hash_input())?;
+            let e = e.take_secret(x, kem, own).map_err(told("secret"))?;
+            hashed(e.hash_input(), e.h())?;
             let mut out = [0; REPLY];
             let (e, sent) = e.sign(&signature, &mut out, &mut k).map_err(told("signature"))?;
             held("REPLY", sent, &reply)?;
-            hashed(e.hash_input())?;
+            hashed(e.hash_input(), e.h())?;
         }
     }
     held("K", k.as_bytes(), &c.bytes("K")?)?;

@@ -1,6 +1,7 @@
-//! script SEED LISTS ROUNDS: random calls as a bench script, for the bench and for any other program that answers one.
+//! script SEED LISTS ROUNDS HASHES: random calls as a bench script, for the bench and for any other program that answers one.
 use differ::calls::{self, Call, Field, Filled};
 use differ::codecs::{encoded, hex, integer, list_number, output, payload, ten};
+use differ::hashes;
 use differ::model::Side;
 use differ::random::Random;
 use std::io::{self, BufWriter, Write};
@@ -47,10 +48,10 @@ fn line(call: &Call) -> Option<String> {
         Call::OwnC { c, out } => format!("ownc {} {}", h(c), o(out)),
         Call::Init(p) => format!("init {}", h(p)),
         Call::Reply(p) => format!("reply {}", h(p)),
-        Call::Secret { given, x_count, x, kem, digest, ks, s } => {
+        Call::Secret { given, x_count, x, kem, k_pq, ks, s } => {
             let given = if small(*given, 1)? == 1 { format!("G{}", x_count) } else { "F".into() };
             let kem = ["a", "f", "d"].get(usize::try_from(*kem).ok()?)?;
-            format!("secret {} {} {} {} {} {}", given, h(x), kem, h(digest), h(ks), h(s))
+            format!("secret {} {} {} {} {} {}", given, h(x), kem, h(k_pq), h(ks), h(s))
         }
         Call::Sign { signature, out, k_out } => format!("sign {} {} {}", h(signature), o(out), o(k_out)),
         Call::Verdict { signature, host_key, k_out } => {
@@ -103,19 +104,71 @@ fn round(r: &mut Random, out: &mut impl Write) -> io::Result<()> {
     writeln!(out, " {} {} {}", r.coin() as u8, r.word() as u32, h(&output(r, total)))
 }
 
+/// A hash's call as a line; none for one that a script cannot say.
+fn hash_line(call: &hashes::Call) -> Option<String> {
+    let number = |bytes: &[u8]| Some(u64::from_be_bytes(bytes.try_into().ok()?));
+    Some(match call {
+        hashes::Call::Start(kind) => format!("sha {}", small(*kind, 255)?),
+        hashes::Call::Feed(part) => format!("feed {}", h(part)),
+        hashes::Call::Finish => "finish".into(),
+        hashes::Call::Forge(0, kind) => format!("shaset kind {}", kind[0]),
+        hashes::Call::Forge(1, total) => format!("shaset total {}", number(total)?),
+        hashes::Call::Forge(9, held) => format!("shaset tail {}", number(held)?),
+        hashes::Call::Forge(..) | hashes::Call::Lend(_) => return None,
+    })
+}
+
+/// Whether a state that somebody wrote to has the digest that any program gives it: none, or that of what was fed with another
+/// total in its padding. What another kind, or another number of waiting bytes, makes of it is the library's own layout.
+fn is_told(forged: &plain::Hash, fed: &plain::Hash) -> bool {
+    forged.finish().0 != 0 || (forged.kind, forged.held) == (fed.kind, fed.held)
+}
+
+fn hash(r: &mut Random, out: &mut impl Write) -> io::Result<()> {
+    let mut side = hashes::Side::default();
+    let mut fed = plain::Hash::default();
+    for _ in 0..r.range(3, 16) {
+        let mut call = hashes::next(r, &side);
+        // a long part is one that a short token says
+        let long = match &mut call {
+            hashes::Call::Feed(part) if part.len() > 2000 => {
+                let byte = part[0];
+                part.fill(byte);
+                Some(format!("feed {:02x}*{}", byte, part.len()))
+            }
+            _ => None,
+        };
+        let Some(text) = long.or_else(|| hash_line(&call)) else { continue };
+        let was = side.hash.clone();
+        side.call(&call);
+        let now = side.state().expect("a script lends no other length");
+        if !matches!(call, hashes::Call::Forge(..)) {
+            fed = now;
+        } else if !is_told(&now, &fed) {
+            side.hash = was;
+            continue;
+        }
+        writeln!(out, "{}", text)?;
+    }
+    Ok(())
+}
+
 fn main() -> io::Result<()> {
     let n: Vec<u64> = std::env::args().skip(1).filter_map(|w| w.parse().ok()).collect();
-    let [seed, lists, rounds] = n[..] else {
-        eprintln!("usage: script SEED LISTS ROUNDS");
+    let [seed, lists, rounds, hashes] = n[..] else {
+        eprintln!("usage: script SEED LISTS ROUNDS HASHES");
         std::process::exit(2);
     };
     let mut out = BufWriter::new(io::stdout().lock());
-    writeln!(out, "# seed {}: {} rounds, {} lists", seed, rounds, lists)?;
+    writeln!(out, "# seed {}: {} rounds, {} lists, {} hashes", seed, rounds, lists, hashes)?;
     for i in 0..rounds {
         round(&mut Random::new(seed, i), &mut out)?;
     }
     for i in 0..lists {
         list(&mut Random::new(seed, rounds + i), &mut out)?;
+    }
+    for i in 0..hashes {
+        hash(&mut Random::new(seed, rounds + lists + i), &mut out)?;
     }
     out.flush()
 }

@@ -1,14 +1,21 @@
-//! timing: from the start through the secret step as server, all fields at their largest, on the compiled core and on the plain
-//! implementation in turns. Medians of 1,001, each of so many exchanges that the clock's own step does not show; rooms cleared first.
+//! timing: SHA-2 over 16 KiB fed in one part; and from the start through the secret step as server, H included, all fields at their
+//! largest; on the compiled core and on the plain implementation in turns. Medians of 1,001, each of so many exchanges that the clock's
+//! own step does not show; rooms cleared first.
 //!
-//! timing core|plain METHOD|choice COUNT: does that alone, so often, and prints nothing, for a counter of instructions.
-use castulfrisa::{raw, EXCHANGE};
+//! timing core|plain METHOD|choice|sha256|sha384|sha512 COUNT: does that alone, so often, and prints nothing, for a counter of
+//! instructions.
+use castulfrisa::{raw, EXCHANGE, HASH_SIZE, H_SIZE};
 use std::hint::black_box;
 use std::process::ExitCode;
 use std::time::Instant;
 
 const TURNS: usize = 1001;
 const EACH: usize = 16;
+const HASHED: usize = 16 * 1024;
+const HASHES: [(&str, u8); 3] = [("sha256", 32), ("sha384", 48), ("sha512", 64)];
+
+/// What a run hands back: a count, and H or a digest.
+type Done = (usize, [u8; H_SIZE]);
 
 struct Fed {
     method: u8,
@@ -16,7 +23,7 @@ struct Fed {
     i: Vec<u8>,
     init: Vec<u8>,
     x: Vec<u8>,
-    digest: Vec<u8>,
+    k_pq: Vec<u8>,
     ks: Vec<u8>,
     s: Vec<u8>,
 }
@@ -34,27 +41,42 @@ fn fed(method: u8) -> Fed {
     let mut init = vec![30];
     init.extend((c.len() as u32).to_be_bytes());
     init.extend(&c);
-    let digest = if m.hybrid { vec![7; m.digest_len] } else { Vec::new() };
-    Fed { method, v: vec![b'v'; 253], i, init, x: vec![0x80; m.x_len], digest, ks: vec![5; 2048], s: value(m.s_len, m.s_classical) }
+    let k_pq = if m.hybrid { vec![7; plain::K_PQ] } else { Vec::new() };
+    Fed { method, v: vec![b'v'; 253], i, init, x: vec![0x80; m.x_len], k_pq, ks: vec![5; 2048], s: value(m.s_len, m.s_classical) }
 }
 
-fn on_core(f: &Fed, room: &mut [u8]) -> usize {
-    let (mut exchange, mut c, mut count) = ([0; EXCHANGE], raw::Part::default(), 0);
+fn on_core(f: &Fed, room: &mut [u8]) -> Done {
+    let (mut exchange, mut c, mut count, mut h) = ([0; EXCHANGE], raw::Part::default(), 0, [0; H_SIZE]);
     raw::start(&mut exchange, 2, f.method.into(), &f.v, &f.v, &f.i, &f.i, room);
     raw::read_init(&mut exchange, room, &f.init, &mut c);
-    let kem = if f.digest.is_empty() { 0 } else { 2 };
-    raw::take_secret(&mut exchange, room, 1, f.x.len() as u64, &f.x, kem, &f.digest, &f.ks, &f.s, &mut count);
-    count as usize
+    let kem = if f.k_pq.is_empty() { 0 } else { 2 };
+    raw::take_secret(&mut exchange, room, 1, f.x.len() as u64, &f.x, kem, &f.k_pq, &f.ks, &f.s, &mut count, &mut h);
+    (count as usize, h)
 }
 
-fn on_plain(f: &Fed, room: &mut [u8]) -> usize {
+fn on_plain(f: &Fed, room: &mut [u8]) -> Done {
     let a = plain::start(2, f.method, &f.v, &f.v, &f.i, &f.i, room);
     let a = plain::read_init(a.exchange, room, &f.init);
-    let kem = if f.digest.is_empty() { plain::Kem::Absent } else { plain::Kem::Done };
-    plain::take_secret(a.exchange, room, plain::Classical::Given(f.x.len()), &f.x, kem, &f.digest, &f.ks, &f.s).count
+    let kem = if f.k_pq.is_empty() { plain::Kem::Absent } else { plain::Kem::Done };
+    let a = plain::take_secret(a.exchange, room, plain::Classical::Given(f.x.len()), &f.x, kem, &f.k_pq, &f.ks, &f.s);
+    (a.count, a.h)
 }
 
-fn one(f: &Fed, room: &mut [u8], run: fn(&Fed, &mut [u8]) -> usize) -> f64 {
+fn hash_on_core(kind: u8, message: &[u8]) -> Done {
+    let (mut hash, mut digest) = ([0; HASH_SIZE], [0; H_SIZE]);
+    raw::hash_start(&mut hash, kind.into());
+    raw::hash_feed(&mut hash, message);
+    raw::hash_finish(&hash, &mut digest);
+    (message.len(), digest)
+}
+
+fn hash_on_plain(kind: u8, message: &[u8]) -> Done {
+    let (_, mut hash) = plain::hash_start(kind);
+    hash.feed(message);
+    (message.len(), hash.finish().1)
+}
+
+fn one(f: &Fed, room: &mut [u8], run: fn(&Fed, &mut [u8]) -> Done) -> f64 {
     room.fill(0);
     let from = Instant::now();
     for _ in 0..EACH {
@@ -104,6 +126,29 @@ fn choices() {
     println!("the choice that searches longest, {} bytes each: core {:.1} ms, plain Rust {:.1} ms, {:.2} times", client.len(), core, model, core / model);
 }
 
+/// Both in turns: the medians, in nanoseconds.
+fn in_turns(mut core: impl FnMut() -> f64, mut model: impl FnMut() -> f64) -> (f64, f64) {
+    let (cores, models) = (0..TURNS).map(|_| (core(), model())).unzip();
+    (median(cores), median(models))
+}
+
+fn hashes() {
+    let message: Vec<u8> = (0..HASHED).map(|i| (i * 7 + i / 256) as u8).collect();
+    for (name, kind) in HASHES {
+        assert_eq!(hash_on_core(kind, &message), hash_on_plain(kind, &message));
+        let time = |run: fn(u8, &[u8]) -> Done| {
+            let message = &message;
+            move || {
+                let from = Instant::now();
+                black_box(run(black_box(kind), black_box(message)));
+                from.elapsed().as_nanos() as f64
+            }
+        };
+        let (core, model) = in_turns(time(hash_on_core), time(hash_on_plain));
+        println!("{} over {} bytes: core {:.0} ns, plain Rust {:.0} ns, {:.2} times", name, HASHED, core, model, core / model);
+    }
+}
+
 /// The work that the words name; false where they name none.
 fn counted(words: &[String]) -> bool {
     let [side, what, count] = words else { return false };
@@ -117,6 +162,13 @@ fn counted(words: &[String]) -> bool {
         for _ in 0..count {
             let (client, server) = (black_box(&client), black_box(&server));
             black_box(if core { raw::choose(client, server, &mut raw::Choice::default()) } else { plain::choose(client, server).number.into() });
+        }
+        return true;
+    }
+    if let Some((_, kind)) = HASHES.iter().find(|(name, _)| what == name) {
+        let message = vec![0x5a; HASHED];
+        for _ in 0..count {
+            black_box(if core { hash_on_core(*kind, black_box(&message)) } else { hash_on_plain(*kind, black_box(&message)) });
         }
         return true;
     }
@@ -134,22 +186,19 @@ fn main() -> ExitCode {
         if counted(&words) {
             return ExitCode::SUCCESS;
         }
-        eprintln!("usage: timing [core|plain METHOD|choice COUNT]");
+        eprintln!("usage: timing [core|plain METHOD|choice|sha256|sha384|sha512 COUNT]");
         return ExitCode::from(2);
     }
     choices();
+    hashes();
     let (mut core_room, mut plain_room) = (vec![0; plain::ROOM], vec![0; plain::ROOM]);
     for method in [1, 8] {
         let f = fed(method);
-        let count = on_core(&f, &mut core_room);
-        assert_eq!(count, on_plain(&f, &mut plain_room));
+        let done = on_core(&f, &mut core_room);
+        assert_eq!(done, on_plain(&f, &mut plain_room));
         assert_eq!(core_room, plain_room);
-        let (mut core, mut model) = (Vec::new(), Vec::new());
-        for _ in 0..TURNS {
-            core.push(one(&f, &mut core_room, on_core));
-            model.push(one(&f, &mut plain_room, on_plain));
-        }
-        let (core, model) = (median(core), median(model));
+        let (core, model) = in_turns(|| one(&f, &mut core_room, on_core), || one(&f, &mut plain_room, on_plain));
+        let count = done.0;
         println!("method {}: {} bytes hashed; core {:.0} ns, plain Rust {:.0} ns, {:.2} times", method, count, core, model, core / model);
     }
     ExitCode::SUCCESS

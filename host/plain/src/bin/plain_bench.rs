@@ -8,20 +8,20 @@ use std::io::{self, BufRead, BufWriter, Write};
 use std::process::ExitCode;
 
 use plain::{
-    choose, init_c, next_name, open_list, own_c, read_init, read_mpint, read_reply, read_string, reply_parts, sign,
-    start, take_secret, verdict, write_kexinit, write_mpint, write_string, Answer, Classical, Cursor, Exchange, Kem,
-    Part, Stage, Written,
+    choose, hash_start, init_c, next_name, open_list, own_c, read_init, read_mpint, read_reply, read_string,
+    reply_parts, sign, start, take_secret, verdict, write_kexinit, write_mpint, write_string, Answer, Classical,
+    Cursor, Exchange, Hash, Kem, Part, Stage, Written,
 };
 
 /// Why a line is bad.
 type Bad = &'static str;
 
-const CALLS: [&str; 20] = [
-    "rstr", "wstr", "rmpint", "wmpint", "open", "next", "names", "wkex", "choose", "room", "poke", "set", "blank",
-    "start", "ownc", "init", "reply", "secret", "sign", "verdict",
+const CALLS: [&str; 24] = [
+    "rstr", "wstr", "rmpint", "wmpint", "open", "next", "names", "wkex", "choose", "sha", "feed", "finish", "shaset",
+    "room", "poke", "set", "blank", "start", "ownc", "init", "reply", "secret", "sign", "verdict",
 ];
 
-/// What is kept between lines: one exchange, one room and one view.
+/// What is kept between lines: one exchange, one room, one view and one hash.
 struct Bench {
     exchange: Exchange,
     /// What `set fail` left for a stage that is set to failed later.
@@ -29,6 +29,7 @@ struct Bench {
     room: Vec<u8>,
     view: Vec<u8>,
     cursor: Cursor,
+    hash: Hash,
 }
 
 fn main() -> ExitCode {
@@ -48,7 +49,8 @@ fn main() -> ExitCode {
 fn play(mut input: impl BufRead, output: &mut impl Write) -> Result<(), String> {
     // A view of nothing, opened, is refused.
     let cursor = open_list(&[], 1).cursor;
-    let mut bench = Bench { exchange: Exchange::default(), fail: 0, room: vec![], view: vec![], cursor };
+    let (exchange, hash) = (Exchange::default(), Hash::default());
+    let mut bench = Bench { exchange, fail: 0, room: vec![], view: vec![], cursor, hash };
     let mut line = Vec::new();
     for at in 1u64.. {
         line.clear();
@@ -132,12 +134,39 @@ impl Bench {
                     u8::from(choice.ignore_server)
                 ))
             }
+            ["sha", kind] => {
+                let (answer, hash) = hash_start(number(kind)?);
+                self.hash = hash;
+                Ok(self.hash_line(answer))
+            }
+            ["feed", part] => {
+                let answer = self.hash.feed(&bytes(part)?);
+                Ok(self.hash_line(answer))
+            }
+            ["finish"] => {
+                let (answer, digest) = self.hash.finish();
+                Ok(format!("{answer} {}", to_hex(&digest)))
+            }
+            ["shaset", field, value] => {
+                match field {
+                    "kind" => self.hash.kind = number(value)?,
+                    "total" => self.hash.total = number(value)?,
+                    "tail" => self.hash.held = number(value)?,
+                    _ => return Err("unknown field"),
+                }
+                Ok(self.hash_line(0))
+            }
             _ => {
                 let mut answer = self.exchange_call(&tokens)?;
                 self.push_record(&mut answer);
                 Ok(answer)
             }
         }
+    }
+
+    fn hash_line(&self, answer: u8) -> String {
+        let Hash { kind, total, held, .. } = self.hash;
+        format!("{answer} {kind}.{total}.{held}")
     }
 
     /// The calls of the second group, whose answers end with the exchange and the room.
@@ -191,12 +220,12 @@ impl Bench {
                 let [k_s, s, signature] = parts.map(|of| part(&payload, of));
                 Ok(format!("{} {k_s} {s} {signature}", answer.number))
             }
-            ["secret", outcome, x, kem, digest, ks, s] => {
-                let (outcome, x, kem, digest) = (classical(outcome)?, bytes(x)?, kem_outcome(kem)?, bytes(digest)?);
+            ["secret", outcome, x, kem, k_pq, ks, s] => {
+                let (outcome, x, kem, k_pq) = (classical(outcome)?, bytes(x)?, kem_outcome(kem)?, bytes(k_pq)?);
                 let (ks, s) = (bytes(ks)?, bytes(s)?);
-                let answer = take_secret(self.exchange, &mut self.room, outcome, &x, kem, &digest, &ks, &s);
+                let answer = take_secret(self.exchange, &mut self.room, outcome, &x, kem, &k_pq, &ks, &s);
                 self.keep(&answer);
-                Ok(format!("{} {}", answer.number, answer.count))
+                Ok(format!("{} {} {}", answer.number, answer.count, to_hex(&answer.h)))
             }
             ["sign", signature, out, k_out] => {
                 let (signature, mut out, mut k_out) = (bytes(signature)?, bytes(out)?, bytes(k_out)?);
@@ -288,11 +317,15 @@ fn after(out: &[u8]) -> String {
 }
 
 fn part(bytes: &[u8], part: Part) -> String {
-    let mut line = format!("{}:", part.start);
-    if part.len == 0 {
-        line.push('-');
+    match part.len {
+        0 => format!("{}:-", part.start),
+        len => format!("{}:{}", part.start, to_hex(&bytes[part.start..part.start + len])),
     }
-    for byte in &bytes[part.start..part.start + part.len] {
+}
+
+fn to_hex(bytes: &[u8]) -> String {
+    let mut line = String::with_capacity(2 * bytes.len());
+    for byte in bytes {
         let _ = write!(line, "{byte:02x}");
     }
     line

@@ -1,0 +1,158 @@
+#!/usr/bin/env python3
+"""dock in methods 7 to 9 with programs of other hands, over the loopback: OpenSSH (9), PuTTY's plink (7 to 9, as client) and libssh (7 to 9), and with
+itself.
+
+usage: hybrids.py --dock PROGRAM --suite FOLDER --libssh FOLDER --peer PROGRAM
+
+--suite: Debian's OpenSSH, PuTTY and the libcrypto that dock runs with; --libssh: Debian's libssh, which --peer (libssh_peer.c) runs with; both as
+tests/suite.sh leaves them. Prints a line for each part; exits 1 with one line at the first failure.
+"""
+import argparse
+import os
+import subprocess
+import sys
+import tempfile
+
+sys.dont_write_bytecode = True
+from hostile import FAULT, LOW_ORDER, PUBLIC, Turn, against_server, changed_replies, init_of, judge
+from live import completed, known_hosts, part, serve_ssh
+from peer import Ecdsa
+from programs import METHODS, Dock, Failure, Programs, Unpacked, end_on_signals, free_port, need
+
+HYBRIDS = (7, 8, 9)
+ED25519 = "ssh-ed25519"
+TIMES = 10  # of dock with dock, in each method
+
+
+def command_line(programs, dock):
+    code, out, err = dock.run("--help")
+    need(code == 0 and err == "" and all(METHODS[method] in out for method in HYBRIDS), "--help has no hybrids:", out, err)
+    return "--help has them"
+
+
+def with_sshd(programs, dock, port):
+    """9 with every kind of host key; and 9 where nothing is asked, because both sides prefer it."""
+    known = known_hosts(programs, port)
+    host_keys = (ED25519, "ecdsa-sha2-nistp256", "ecdsa-sha2-nistp384", "ecdsa-sha2-nistp521", "rsa-sha2-256", "rsa-sha2-512")
+    for host_key in host_keys:
+        answer = dock.run("client", "127.0.0.1", port, "--known-hosts", known, "--methods", METHODS[9], "--host-keys", host_key)
+        need(completed(answer, 9, host_key)["known"] == "yes", "known")
+    completed(dock.run("client", "127.0.0.1", port, "--host-keys", ED25519), 9, ED25519)
+    changed = changed_replies(dock, "hybrids", port, times=24, pairs=[(9, ED25519)])
+    return f"{len(host_keys) + 1} exchanges, {changed - 1} changed replies refused"
+
+
+def with_ssh(programs, dock):
+    for host_key in (ED25519, "ecdsa-sha2-nistp256", "rsa-sha2-512"):
+        serve_ssh(programs, dock, 9, host_key, programs.key(host_key))
+    return "3 exchanges"
+
+
+def with_plink(programs, dock, suite):
+    """plink takes what a server offers of its methods: the server has one. It goes no further than NEWKEYS, and says so."""
+    plink = [*suite.command("usr/bin/plink"), "-ssh", "-batch", "-noagent", "-hostkey", programs.fingerprint(ED25519), "-l", "nobody"]
+    env = dict(os.environ, HOME=programs.folder)
+    for method in HYBRIDS:
+        process, port = dock.serve("--host-key", programs.key(ED25519), "--methods", METHODS[method])
+        code, out, err = programs.run([*plink, "-P", str(port), "127.0.0.1", "true"], env=env)
+        answer = dock.end(process)
+        need(answer[0] == 0, f"method {method}: {answer[2].strip()} (plink: {err.strip()})")
+        completed(answer, method, ED25519)
+    return "an exchange in each of methods 7 to 9"
+
+
+def with_libssh(programs, dock, peer):
+    for method in HYBRIDS:
+        port = free_port()
+        process = programs.start([*peer, "server", str(port), METHODS[method], programs.key(ED25519)], stdout=subprocess.PIPE,
+                                 stderr=subprocess.PIPE)
+        need(process.stdout.readline() == b"listening\n", "libssh does not listen")
+        known = programs.write("known_libssh", f"[127.0.0.1]:{port} {programs.public(ED25519)}\n")
+        found = completed(dock.run("client", "127.0.0.1", port, "--known-hosts", known, "--methods", METHODS[method]), method, ED25519)
+        need(found["known"] == "yes", "known", found["known"])
+        err = process.communicate(timeout=60)[1].decode("ascii", "replace")
+        programs.finished(process)
+        need(process.returncode == 0, f"method {method}, libssh as server: {err.strip()}")
+
+        process, port = dock.serve("--host-key", programs.key(ED25519), "--methods", METHODS[method])
+        code, out, err = programs.run([*peer, "client", str(port), METHODS[method]])
+        answer = dock.end(process)
+        need(answer[0] == 0 and code == 0, f"method {method}, libssh as client: {answer[2].strip()} {err.strip()}")
+        completed(answer, method, ED25519)
+    return "an exchange in each of methods 7 to 9, as client and as server"
+
+
+def with_dock(programs, dock):
+    """Both sides have the same H."""
+    for method in HYBRIDS:
+        process, port = dock.serve("--host-key", programs.key(ED25519), "--count", TIMES)
+        own = []
+        for _ in range(TIMES):
+            own.append(completed(dock.run("client", "127.0.0.1", port, "--methods", METHODS[method]), method, ED25519)["H"])
+        code, out, err = dock.end(process)
+        need(code == 0, f"method {method}: {err.strip()}")
+        theirs = [line[2:] for line in out.splitlines() if line.startswith("H ")]
+        need(own == theirs and len(set(own)) == TIMES, f"method {method}: H is {own} and {theirs}")
+    return f"{TIMES} exchanges in each of methods 7 to 9"
+
+
+P256 = Ecdsa(b"seed").point
+# the base point of P-384 (SEC 2, 2.5.1)
+P384 = bytes.fromhex("04aa87ca22be8b05378eb1c71ef320ad746e1d3b628ba79b9859f741e082542a385502f25dbf55296c3a545e3872760ab7"
+                     "3617de4a96262c6f5d9e98bf9292dc29f8f41dbd289a147ce9da3113b5f0b8c00a60b1ce1d7e819d7a431d7c90ea0e5f")
+
+
+def hostile_clients(programs, dock):
+    """Of a KEM key of ff no number is below 3,329, so that it is none (FIPS 203, 7.2); one of zeros is one. 16 comes ahead of 17, and also where the KEM
+    is done."""
+    cases = []
+    for method, kem_len, point in ((7, 1184, P256), (8, 1568, P384), (9, 1184, PUBLIC)):
+        bad, good = b"\xff" * kem_len, bytes(kem_len)
+        off = LOW_ORDER[0] if method == 9 else point[:-1] + bytes([point[-1] ^ 1])
+        cases += [(method, bad + point, 17), (method, bad + off, 16), (method, good + off, 16), (method, good + point + b"\0", 14),
+                  (method, good, 14), (method, point, 14)]
+        if method != 9:  # the point ahead of the key: its first byte does not stand where it must
+            cases.append((method, point + good, 15))
+    for method, c, number in cases:
+        play = init_of(lambda rng: c, number, METHODS[method].encode())
+        p, code, out, err = against_server(dock, play, Turn("hybrids", 0), "--host-key", programs.key(ED25519))
+        try:
+            need(p.must == (FAULT, number), "no INIT was due")
+            judge(p.must, code, out, err, p.seen)
+        except Failure as e:
+            raise Failure(f"method {method}, C {c[:8].hex()}.. of {len(c)} bytes: {e}") from None
+    return f"{len(cases)} values of C refused"
+
+
+def main():
+    options = argparse.ArgumentParser(description=__doc__.split("\n")[0])
+    for name in ("dock", "suite", "libssh", "peer"):
+        options.add_argument(f"--{name}", required=True)
+    options = options.parse_args()
+    end_on_signals()
+    with tempfile.TemporaryDirectory(prefix="hybrids-") as folder:
+        suite, libssh = Unpacked(options.suite), Unpacked(options.libssh)
+        programs = Programs(folder, suite)
+        try:
+            dock = Dock(programs, options.dock, suite)
+            peer = libssh.command(os.path.abspath(options.peer))
+            versions = [programs.ssh_version().split(",")[0], programs.run([*suite.command("usr/bin/plink"), "-V"])[1].split("\n")[0],
+                        "libssh " + programs.run([*peer, "version"])[1].strip()]
+            print(f"hybrids: {', '.join(versions)}", flush=True)
+            programs.make_keys()
+            sshd = programs.sshd()
+            for name, work, *more in (
+                    ("command line", command_line), ("client against sshd, method 9", with_sshd, sshd), ("server for ssh, method 9", with_ssh),
+                    ("server for plink", with_plink, suite), ("libssh", with_libssh, peer), ("dock with dock", with_dock),
+                    ("hostile clients", hostile_clients)):
+                part(name, work, programs, dock, *more, of="hybrids")
+        except (Failure, OSError, subprocess.SubprocessError) as e:
+            print(f"hybrids: FAILED: {e}", file=sys.stderr)
+            return 1
+        finally:
+            programs.stop_all()
+    return 0
+
+
+if __name__ == "__main__":
+    sys.exit(main())
