@@ -1,8 +1,10 @@
 // A hash in bytes that a host lends: started, fed and finished. Bytes of another size than a hash's are answered 4 and stay.
 use sha2::Hash;
 ghost use mathlib.Core.Path.{_≡_};
+ghost use Prim.Native.Nat.{_+_, _≤_};
 ghost use lib.ListN.{length};
 ghost use Rattle.limits.specs.Limits.{hashSize};
+ghost use Rattle.sha_words.specs.Blocks.{numberAt};
 ghost use Rattle.lent_hash.specs.LentHash.{stateBytes, stateIn, hashLeft, startLeft, feedLeft, finishLeft};
 
 // Where a hash's parts stand; its kind stands first.
@@ -14,6 +16,23 @@ const VALUE_AT: usize = 17;
 
 const TAIL_AT: usize = 81;
 
+// The number in the eight bytes from `at` on.
+fn number_in(h: &[u8], at: usize) -> usize
+    requires { ⌜ at + 8 ≤ length (now h) ⌝ }
+    ensures { λ r. ⌜ r ≡ numberAt (now (h .entry)) at 8 ⌝ }
+{
+    numbers::join(
+        h[at],
+        h[at + 1],
+        h[at + 2],
+        h[at + 3],
+        h[at + 4],
+        h[at + 5],
+        h[at + 6],
+        h[at + 7],
+    ) as usize
+}
+
 fn load(h: &[u8]) -> Hash
     requires { ⌜ length (now h) ≡ hashSize ⌝ }
     ensures { λ r. ⌜ r ≡ stateIn (now (h .entry)) ⌝ }
@@ -24,8 +43,8 @@ fn load(h: &[u8]) -> Hash
     buffers::put_bytes(&mut tail, 0, &h[TAIL_AT..]);
     Hash {
         kind: h[0],
-        total: numbers::number(h, TOTAL_AT) as usize,
-        held: numbers::number(h, HELD_AT) as usize,
+        total: number_in(h, TOTAL_AT),
+        held: number_in(h, HELD_AT),
         value,
         tail,
     }

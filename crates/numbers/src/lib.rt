@@ -1,11 +1,10 @@
 // A number of 64 bits as eight bytes, the highest first (FIPS 180-4, section 3.1), and back.
 ghost use mathlib.Core.Path.{_≡_};
-ghost use Prim.Native.Nat.{_+_, _*_, _≤_};
-ghost use lib.ListN.{length};
-ghost use Rattle.sha_words.specs.Blocks.{numberAt};
+ghost use Prim.Native.Nat.{_+_, _*_};
 ghost use Rattle.sha_words.specs.Message.{bytesOf};
 
-fn join(b0: u8, b1: u8, b2: u8, b3: u8, b4: u8, b5: u8, b6: u8, b7: u8) -> u64
+// The number of eight bytes.
+pub fn join(b0: u8, b1: u8, b2: u8, b3: u8, b4: u8, b5: u8, b6: u8, b7: u8) -> u64
     ensures { λ r. ⌜ r ≡ ((((((b0 * 256 + b1) * 256 + b2) * 256 + b3) * 256 + b4) * 256 + b5) * 256 + b6) * 256 + b7 ⌝ }
 {
     (b0 as u64) * 0x100000000000000
@@ -16,23 +15,6 @@ fn join(b0: u8, b1: u8, b2: u8, b3: u8, b4: u8, b5: u8, b6: u8, b7: u8) -> u64
         + (b5 as u64) * 0x10000
         + (b6 as u64) * 0x100
         + (b7 as u64)
-}
-
-// The number of the eight bytes of b from `at` on.
-pub fn number(b: &[u8], at: usize) -> u64
-    requires { ⌜ at + 8 ≤ length (now b) ⌝ }
-    ensures { λ r. ⌜ r ≡ numberAt (now (b .entry)) at 8 ⌝ }
-{
-    join(
-        b[at],
-        b[at + 1],
-        b[at + 2],
-        b[at + 3],
-        b[at + 4],
-        b[at + 5],
-        b[at + 6],
-        b[at + 7],
-    )
 }
 
 // Its eight bytes.

@@ -73,6 +73,19 @@ fn in_parts(kind: u8, m: &[u8]) {
     put_digest(bytes, kind, b"\n");
 }
 
+fn length_in(head: &[u8; 9]) -> usize {
+    numbers::join(
+        head[1],
+        head[2],
+        head[3],
+        head[4],
+        head[5],
+        head[6],
+        head[7],
+        head[8],
+    ) as usize
+}
+
 // A message: whether there was one.
 fn message(space: &mut [u8]) -> bool {
     let mut head = [0u8; 9];
@@ -81,7 +94,7 @@ fn message(space: &mut [u8]) -> bool {
         return false;
     }
     let kind = head[0];
-    let len = numbers::number(&head, 1) as usize;
+    let len = length_in(&head);
     if space.len() < len {
         return false;
     }

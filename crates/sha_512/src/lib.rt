@@ -131,20 +131,36 @@ fn small_sigma1(x: u64) -> u64
 
 // ---- words and bytes
 
+fn word(b: &[u8], at: usize) -> u64
+    requires { ⌜ at + 8 ≤ length (now b) ⌝ }
+    ensures { λ r. ⌜ r ≡ numberAt (now (b .entry)) at 8 ⌝ }
+{
+    numbers::join(
+        b[at],
+        b[at + 1],
+        b[at + 2],
+        b[at + 3],
+        b[at + 4],
+        b[at + 5],
+        b[at + 6],
+        b[at + 7],
+    )
+}
+
 // A hash value's eight words.
 fn words_in(v: &[u8]) -> [u64; 8]
     requires { ⌜ 64 ≤ length (now v) ⌝ }
     ensures { λ r. ⌜ r ≡ wordsAt (now (v .entry)) 0 8 8 ⌝ }
 {
     [
-        numbers::number(v, 0),
-        numbers::number(v, 8),
-        numbers::number(v, 16),
-        numbers::number(v, 24),
-        numbers::number(v, 32),
-        numbers::number(v, 40),
-        numbers::number(v, 48),
-        numbers::number(v, 56),
+        word(v, 0),
+        word(v, 8),
+        word(v, 16),
+        word(v, 24),
+        word(v, 32),
+        word(v, 40),
+        word(v, 48),
+        word(v, 56),
     ]
 }
 
@@ -181,7 +197,7 @@ fn schedule(b: &[u8]) -> [u64; 80]
 {
     let mut m = [0u64; 80];
     for i in 0..16 {
-        m[i] = numbers::number(b, 8 * i);
+        m[i] = word(b, 8 * i);
     }
     for t in 16..80 {
         m[t] = mix(m[t - 2], m[t - 7], m[t - 15], m[t - 16]);

@@ -46,11 +46,11 @@ put-bytes-requires-2 c κs = search needs
 shared-slice-read-t17 : tie.Need-shared-slice-read-t17
 shared-slice-read-t17 c = search needs
 
-number-requires : tie.Need-number-requires
-number-requires c κs = search needs
+number-in-requires : tie.Need-number-in-requires
+number-in-requires c κs = search needs
 
-number-requires-2 : tie.Need-number-requires-2
-number-requires-2 c κs = search needs
+number-in-requires-2 : tie.Need-number-in-requires-2
+number-in-requires-2 c κs = search needs
 
 returns : tie.Need-returns
 unfolding stateIn
@@ -60,7 +60,7 @@ returns c =
     let d = length-drop 17 h in
     let v = c .before .before .before .before .before .before .before .before .put-bytes .ensures ∙ laid-whole (zeros hSize) (take hSize (drop 17 h)) (length-take-le hSize (drop 17 h) (omega (arith, a .pre))) in
     let t = c .before .before .before .before .put-bytes2 .ensures ∙ ap (laid (zeros blockMost) 0) (tail-part h 81) ∙ laid-whole (zeros blockMost) (drop 81 h) (length-drop 81 h ∙ omega (arith, a .pre)) in
-    λ i. record { kind = getD h 0 0; total = c .before .number .ensures i; held = c .number2 .ensures i; value = v i; tail = t i }
+    λ i. record { kind = getD h 0 0; total = c .before .number-in .ensures i; held = c .number-in2 .ensures i; value = v i; tail = t i }
 
 pub load-spec : {M : Type 1} → statement M
 load-spec =
@@ -77,6 +77,6 @@ load-spec =
     part-put-bytes-end-2
     put-bytes-requires-2
     shared-slice-read-t17
-    number-requires
-    number-requires-2
+    number-in-requires
+    number-in-requires-2
     returns)

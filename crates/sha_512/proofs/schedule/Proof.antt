@@ -27,11 +27,11 @@ abbrev μ-loop2 : tie.MeasureT-loop2
 loop-holds : tie.Need-loop-holds Inv-loop μ-loop Inv-loop2 μ-loop2
 loop-holds c = (omega arith, refl, schedule-none _ _)
 
-mul-number : tie.Need-mul-number Inv-loop μ-loop Inv-loop2 μ-loop2
-mul-number c = omega arith
+mul-word : tie.Need-mul-word Inv-loop μ-loop Inv-loop2 μ-loop2
+mul-word c = omega arith
 
-number-requires : tie.Need-number-requires Inv-loop μ-loop Inv-loop2 μ-loop2
-number-requires c κs = search needs
+word-requires : tie.Need-word-requires Inv-loop μ-loop Inv-loop2 μ-loop2
+word-requires c κs = search needs
 
 mul-m : tie.Need-mul-m Inv-loop μ-loop Inv-loop2 μ-loop2
 mul-m c = omega arith
@@ -48,7 +48,7 @@ loop-less c = omega arith
 loop-again : tie.Need-loop-again Inv-loop μ-loop Inv-loop2 μ-loop2
 loop-again c =
     let l = c .before .before in
-    (omega arith, simp length-set (l .loop .inv .1), word-first bits64 (now (l .before .before .args .b)) (l .loop .m) (l .loop .i) _ (omega arith) (omega arith) (l .loop .inv .2) (c .number .ensures))
+    (omega arith, simp length-set (l .loop .inv .1), word-first bits64 (now (l .before .before .args .b)) (l .loop .m) (l .loop .i) _ (omega arith) (omega arith) (l .loop .inv .2) (c .word .ensures))
 
 loop2-holds : tie.Need-loop2-holds Inv-loop μ-loop Inv-loop2 μ-loop2
 loop2-holds c =
@@ -125,8 +125,8 @@ schedule-spec =
     Inv-loop2
     μ-loop2
     loop-holds
-    mul-number
-    number-requires
+    mul-word
+    word-requires
     mul-m
     array-write-m
     add-i

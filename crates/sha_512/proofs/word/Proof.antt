@@ -1,9 +1,9 @@
--- `numbers::number` meets its contract. Assumes nothing.
+-- `sha_512::word` meets its contract. Assumes nothing.
 use native.Mathlib.Omega.{arith}
 use native.Mathlib.Nat.{add-zero}
 use borrow.Author.Needs.{needs}
-use Rattle.numbers.proofs.number.Statement.{statement}
-use Rattle.numbers.proofs.number.Tie as tie
+use Rattle.sha_512.proofs.word.Statement.{statement}
+use Rattle.sha_512.proofs.word.Tie as tie
 
 shared-slice-read-join : tie.Need-shared-slice-read-join
 shared-slice-read-join c = search needs
@@ -56,8 +56,8 @@ join-requires c κs = search needs
 returns : tie.Need-returns
 returns c = simp add-zero (omega arith)
 
-pub number-spec : {M : Type 1} → statement M
-number-spec =
+pub word-spec : {M : Type 1} → statement M
+word-spec =
     tie.close
     (tie.spec
     shared-slice-read-join
