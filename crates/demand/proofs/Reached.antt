@@ -75,10 +75,10 @@ module _ (l : Lft) (g : GName) where
   reached e room (reply p ∷ qs) =
       read-reply (l, (l, tt)) (e, (lent room, (lent p, tt))) (answered e room (reply p)) (e, (lent (roomAfter e room (reply p)), (lent p, tt)))
       (refl, refl) (reached (exchangeAfter e room (reply p)) (roomAfter e room (reply p)) qs)
-  reached e room (secret cl x kem d ks s ∷ qs) =
-      take-secret (l, (l, (l, (l, (l, tt))))) (e, (lent room, (cl, (lent x, (kem, (lent d, (lent ks, (lent s, tt)))))))) (answered e room (secret cl x kem d ks s))
-      (e, (lent (roomAfter e room (secret cl x kem d ks s)), (cl, (lent x, (kem, (lent d, (lent ks, (lent s, tt))))))))
-      (refl, refl) (reached (exchangeAfter e room (secret cl x kem d ks s)) (roomAfter e room (secret cl x kem d ks s)) qs)
+  reached e room (secret cl x kem kPq ks s ∷ qs) =
+      take-secret (l, (l, (l, (l, (l, tt))))) (e, (lent room, (cl, (lent x, (kem, (lent kPq, (lent ks, (lent s, tt)))))))) (answered e room (secret cl x kem kPq ks s))
+      (e, (lent (roomAfter e room (secret cl x kem kPq ks s)), (cl, (lent x, (kem, (lent kPq, (lent ks, (lent s, tt))))))))
+      (refl, refl) (reached (exchangeAfter e room (secret cl x kem kPq ks s)) (roomAfter e room (secret cl x kem kPq ks s)) qs)
   reached e room (sign g out kOut ∷ qs) =
       subst (λ (n : ℕ). Reaches e room (sign g n kOut ∷ qs)) (length-zeros out)
       (subst (λ (n : ℕ). Reaches e room (sign g (length (zeros out)) n ∷ qs)) (length-zeros kOut) (sign-then e room qs g (zeros out) (zeros kOut) (reached _ _ qs)))

@@ -38,7 +38,7 @@ unfoldable pub tells : Exchange → List ℕ → Call → List ℕ
 tells e room (ownC c out) = counts (answered e room (ownC c out))
 tells e room (init p) = placeOf (stepPart e room (init p) p 0)
 tells e room (reply p) = placeOf (stepPart e room (reply p) p 0) ++ placeOf (stepPart e room (reply p) p 1) ++ placeOf (stepPart e room (reply p) p 2)
-tells e room (secret cl x kem d ks s) = counts (answered e room (secret cl x kem d ks s))
+tells e room (secret cl x kem kPq ks s) = counts (answered e room (secret cl x kem kPq ks s))
 tells e room (sign g out kOut) = bothCounts (answered e room (sign g out kOut))
 tells e room (verdict a b kOut) = counts (answered e room (verdict a b kOut))
 
@@ -47,7 +47,7 @@ abbrev pub toldSize : Call → ℕ
 toldSize (ownC c out) = 1
 toldSize (init p) = 2
 toldSize (reply p) = 6
-toldSize (secret cl x kem d ks s) = 1
+toldSize (secret cl x kem kPq ks s) = 1
 toldSize (sign g out kOut) = 2
 toldSize (verdict a b kOut) = 1
 
@@ -57,7 +57,7 @@ abbrev pub writes : Exchange → List ℕ → Call → List (List ℕ)
 writes e room (ownC c out) = initBytes c ∷ []
 writes e room (init p) = []
 writes e room (reply p) = []
-writes e room (secret cl x kem d ks s) = []
+writes e room (secret cl x kem kPq ks s) = []
 writes e room (sign g out kOut) = replyOf e room g ∷ e .k ∷ []
 writes e room (verdict a b kOut) = e .k ∷ []
 
