@@ -1,13 +1,13 @@
 -- Laws of `specs/Message.antt`, over the parameters: whole blocks in front, and a message that comes in two parts. Assumes nothing.
 use Prim.Native.Nat.{ℕ, zero, suc, _+_, _-_, _*_, _/_, _%_, _≤_, _<_}
 use mathlib.Core.Path.{_≡_, refl, sym, ap, _∙_}
-use mathlib.Core.List.{List, [], _∷_, _++_, append-assoc}
+use mathlib.Core.List.{List, [], _++_, append-assoc}
 use native.Mathlib.Omega.{arith}
-use native.Mathlib.Nat.{add-zero, add-suc, mul-suc, mul-add, mul-add-div, mul-add-mod-self-left, div-add-mod, mod-lt, mod-le, div-eq-of-lt, mod-eq-of-lt, mod-self}
+use native.Mathlib.Nat.{add-zero, add-suc, mul-suc, mul-add, mul-add-div, mul-add-mod-self-left, div-add-mod, mod-le, div-eq-of-lt, mod-eq-of-lt, mod-self}
 use lib.ListN.{length, take, drop, length-append, length-drop, take-append-drop}
 use lib.Seq.{drop-length, drop-append-le, take-append-le, drop-append-add, length-take-le}
 use Rattle.sha_words.specs.Words.{Width}
-use Rattle.sha_words.specs.Blocks.{next, hashAfter, after}
+use Rattle.sha_words.specs.Blocks.{hashAfter, after}
 use Rattle.sha_words.specs.Message.{behind}
 
 -- ---- hashAfter

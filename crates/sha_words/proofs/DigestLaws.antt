@@ -1,19 +1,19 @@
 -- Laws of the digest: a padded message is whole blocks, and a digest has as many bytes as its kind says. Assumes nothing.
-use Prim.Native.Nat.{ℕ, zero, suc, _+_, _-_, _*_, _/_, _%_, _≤_, _<_}
-use mathlib.Core.Path.{_≡_, refl, sym, ap, _∙_}
-use mathlib.Core.List.{List, [], _∷_, _++_}
+use Prim.Native.Nat.{ℕ, zero, suc, _*_, _/_, _%_, _≤_, _<_}
+use mathlib.Core.Path.{_≡_, refl, ap, _∙_}
+use mathlib.Core.List.{List}
 use mathlib.Core.Bool.{Bool, true, false, cond, _||_, false≢true}
 use lib.Dec.{ltb, eqb}
 use borrow.Author.Tests.{ltb-true, ltb-false, eqb-true}
 use native.Mathlib.Omega.{arith}
 use native.Mathlib.Nat.{mod-eq-of-lt, one-mul, le-div-iff-mul-le}
-use lib.ListN.{length, take, length-append}
+use lib.ListN.{length, length-append}
 use lib.Seq.{length-take-le}
 use Rattle.sha_words.specs.Words.{Width}
 use Rattle.sha_words.specs.Constants.{bits32, bits64, known, widthOf, initial}
 use Rattle.sha_words.specs.Blocks.{next, hashAfter, after}
-use Rattle.sha_words.specs.Message.{bytesOf, wordBytes, padding, padded, sha2}
-use Rattle.sha_words.proofs.PaddingLaws.{Sizes, sizes-of, padded-whole}
+use Rattle.sha_words.specs.Message.{wordBytes, padding, padded, sha2}
+use Rattle.sha_words.proofs.PaddingLaws.{sizes-of, padded-whole}
 use Rattle.sha_words.proofs.ValueLaws.{length-wordBytes}
 
 -- ---- eight words
@@ -48,7 +48,7 @@ padded-least p m pos = by-test (ltb (length (padded p m)) (p .block)) refl
 -- ---- the digest
 
 -- a kind's bytes are among those of its hash value
-kind-most : (kind : ℕ) → known kind ≡ true → kind ≤ widthOf kind .bytes * 8
+pub kind-most : (kind : ℕ) → known kind ≡ true → kind ≤ widthOf kind .bytes * 8
 kind-most kind h = by-first (eqb kind 32) refl h
   where
     by-third : (t : Bool) → eqb kind 64 ≡ t → t ≡ true → kind ≤ 64

@@ -7,8 +7,8 @@ use lib.Dec.{ltb, eqb}
 use borrow.Author.Tests.{ltb-true, ltb-false}
 use native.Mathlib.Omega.{arith}
 use native.Mathlib.Numerals.{add-one}
-use native.Mathlib.Nat.{mod-add-mod, mod-eq-of-lt, mod-self, add-mod-mod, mod-eq-sub-mod, mod-lt, mul-one, add-assoc}
-use lib.ListN.{length, take, drop, length-append, length-replicate, replicate-append-replicate}
+use native.Mathlib.Nat.{mod-add-mod, mod-eq-of-lt, mod-self, add-mod-mod, mod-eq-sub-mod, mod-lt, add-assoc}
+use lib.ListN.{length, take, length-append, length-replicate, replicate-append-replicate}
 use Rattle.limits.specs.Limits.{hashMost, blockMost, hSize}
 use Rattle.buffers.specs.Bytes.{zeros, laid}
 use Rattle.sha_words.specs.Words.{Width}
@@ -23,14 +23,15 @@ pub record Sizes (p : Width) : Type 0 where
   pub most : p .block ≤ blockMost
   pub room : 2 * p .bytes + 1 ≤ p .block
   pub three : 3 ≤ 2 * p .bytes
+  pub words : p .block ≡ 16 * p .bytes
   pub eight : p .bytes * 8 ≤ hSize
   pub power : 2 ^ p .w ≡ 256 ^ p .bytes
 
 pub sizes32 : Sizes bits32
-sizes32 = record { positive = omega arith; most = omega arith; room = omega arith; three = omega arith; eight = omega arith; power = refl }
+sizes32 = record { positive = omega arith; most = omega arith; room = omega arith; three = omega arith; words = refl; eight = omega arith; power = refl }
 
 pub sizes64 : Sizes bits64
-sizes64 = record { positive = omega arith; most = omega arith; room = omega arith; three = omega arith; eight = omega arith; power = refl }
+sizes64 = record { positive = omega arith; most = omega arith; room = omega arith; three = omega arith; words = refl; eight = omega arith; power = refl }
 
 pub sizes-of : (kind : ℕ) → Sizes (widthOf kind)
 sizes-of kind = by-test (eqb kind 32)

@@ -1,18 +1,17 @@
 -- Laws of a hash value as bytes, over the width: words written and read again, and a value that goes from part to part of a message. Assumes nothing.
-use Prim.Native.Nat.{ℕ, zero, suc, _+_, _-_, _*_, _/_, _%_, _≤_, _<_, _^_}
+use Prim.Native.Nat.{ℕ, zero, suc, _+_, _*_, _/_, _%_, _≤_, _<_, _^_}
 use mathlib.Core.Path.{_≡_, refl, sym, ap, subst, _∙_}
 use mathlib.Core.List.{List, [], _∷_, _++_, append-assoc, append-nil}
-use mathlib.Core.Bool.{Bool, true, false, cond}
+use mathlib.Core.Bool.{Bool, true, false}
 use lib.Dec.{ltb}
 use borrow.Author.Tests.{ltb-true, ltb-false, lt-ltb, le-ltb}
 use native.Mathlib.Omega.{arith}
 use native.Mathlib.Numerals.{add-one}
 use native.Mathlib.Nat.{mod-lt, mul-suc, one-mul, pow-suc, le-div-iff-mul-le}
-use lib.ListN.{length, getD, take, drop, length-append, length-drop, take-append-drop}
+use lib.ListN.{length, getD, take, drop, length-append, take-append-drop}
 use lib.Pow.{pow-pos}
 use lib.Seq.{take-at, take-suc, getD-at, length-take-le}
-use Rattle.limits.specs.Limits.{hSize}
-use Rattle.buffers.specs.Bytes.{zeros, laid}
+use Rattle.buffers.specs.Bytes.{laid}
 use Rattle.sha_words.specs.Words.{Width}
 use Rattle.sha_words.specs.Blocks.{numberAt, Working, sums, next, hashAfter, after}
 use Rattle.sha_words.specs.Message.{bytesOf, wordBytes, wordsAt, behind, sized, valueOf, valueAfter}
@@ -93,9 +92,19 @@ words-read n (x ∷ ws) a b h =
 -- sums are words
 sums-below : (p : Width) (H : List ℕ) (v : Working) → Sizes p → Below (256 ^ p .bytes) (sums (p .w) H v)
 sums-below p H v sizes =
-    let less : (x : ℕ) → x % 2 ^ p .w < 256 ^ p .bytes = λ x. subst (λ (n : ℕ). x % 2 ^ p .w < n) (sizes .power) (mod-lt x (pow-pos (p .w))) in
-    (less (v .a + getD H 0 0), (less (v .b + getD H 1 0), (less (v .c + getD H 2 0), (less (v .d + getD H 3 0),
-    (less (v .e + getD H 4 0), (less (v .f + getD H 5 0), (less (v .g + getD H 6 0), (less (v .h + getD H 7 0), tt))))))))
+    let less : (x : ℕ) → x % 2 ^ p .w < 256 ^ p .bytes = λ x. subst (λ (n : ℕ). x % 2 ^ p .w < n) (sizes .power) (mod-lt x (pow-pos (p .w))) in (
+      less (v .a + getD H 0 0),
+      (
+        less (v .b + getD H 1 0),
+        (
+          less (v .c + getD H 2 0),
+          (
+            less (v .d + getD H 3 0),
+            (less (v .e + getD H 4 0), (less (v .f + getD H 5 0), (less (v .g + getD H 6 0), (less (v .h + getD H 7 0), tt)))),
+          ),
+        ),
+      ),
+    )
 
 -- the words of a hash value that blocks made
 read-hash : (p : Width) (H m : List ℕ) (n : ℕ) → Sizes p → 1 ≤ n

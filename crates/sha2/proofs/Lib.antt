@@ -1,0 +1,4 @@
+pub mod StateLaws
+pub mod CodeLaws
+pub mod PartLaws
+pub mod WholeLaws

@@ -1,0 +1,306 @@
+// FIPS 180-4, sections 4.1, 4.2 and 6.2.2: the block function of SHA-256, on words of 32 bits. A hash value goes in and comes back as bytes.
+ghost use mathlib.Core.Path.{_≡_};
+ghost use Prim.Native.Nat.{_+_, _*_, _≤_};
+ghost use lib.ListN.{length};
+ghost use Rattle.sha_words.specs.Words.{Σ0, Σ1, σ0, σ1};
+ghost use Rattle.sha_words.specs.Constants.{bits32};
+ghost use Rattle.sha_words.specs.Blocks.{numberAt, mixed, round as oneRound, roundsOf, schedule as wordsOf, sums as sumsOf, next as nextOf, after};
+ghost use Rattle.sha_words.specs.Message.{bytesOf, wordsAt, valueOf, valueAfter};
+ghost use Rattle.sha_256.specs.Variables.{working};
+use std::num::wrapping_add_u32;
+
+// K_0 to K_63.
+const ROUND: [u32; 64] = [
+    0x428a2f98,
+    0x71374491,
+    0xb5c0fbcf,
+    0xe9b5dba5,
+    0x3956c25b,
+    0x59f111f1,
+    0x923f82a4,
+    0xab1c5ed5,
+    0xd807aa98,
+    0x12835b01,
+    0x243185be,
+    0x550c7dc3,
+    0x72be5d74,
+    0x80deb1fe,
+    0x9bdc06a7,
+    0xc19bf174,
+    0xe49b69c1,
+    0xefbe4786,
+    0x0fc19dc6,
+    0x240ca1cc,
+    0x2de92c6f,
+    0x4a7484aa,
+    0x5cb0a9dc,
+    0x76f988da,
+    0x983e5152,
+    0xa831c66d,
+    0xb00327c8,
+    0xbf597fc7,
+    0xc6e00bf3,
+    0xd5a79147,
+    0x06ca6351,
+    0x14292967,
+    0x27b70a85,
+    0x2e1b2138,
+    0x4d2c6dfc,
+    0x53380d13,
+    0x650a7354,
+    0x766a0abb,
+    0x81c2c92e,
+    0x92722c85,
+    0xa2bfe8a1,
+    0xa81a664b,
+    0xc24b8b70,
+    0xc76c51a3,
+    0xd192e819,
+    0xd6990624,
+    0xf40e3585,
+    0x106aa070,
+    0x19a4c116,
+    0x1e376c08,
+    0x2748774c,
+    0x34b0bcb5,
+    0x391c0cb3,
+    0x4ed8aa4a,
+    0x5b9cca4f,
+    0x682e6ff3,
+    0x748f82ee,
+    0x78a5636f,
+    0x84c87814,
+    0x8cc70208,
+    0x90befffa,
+    0xa4506ceb,
+    0xbef9a3f7,
+    0xc67178f2,
+];
+
+// The working variables.
+pub struct Variables {
+    pub a: u32,
+    pub b: u32,
+    pub c: u32,
+    pub d: u32,
+    pub e: u32,
+    pub f: u32,
+    pub g: u32,
+    pub h: u32,
+}
+
+fn big_sigma0(x: u32) -> u32
+    ensures { λ r. ⌜ r ≡ Σ0 bits32 x ⌝ }
+{
+    ((x >> 2) | (x << 30)) ^ ((x >> 13) | (x << 19)) ^ ((x >> 22) | (x << 10))
+}
+
+fn big_sigma1(x: u32) -> u32
+    ensures { λ r. ⌜ r ≡ Σ1 bits32 x ⌝ }
+{
+    ((x >> 6) | (x << 26)) ^ ((x >> 11) | (x << 21)) ^ ((x >> 25) | (x << 7))
+}
+
+fn small_sigma0(x: u32) -> u32
+    ensures { λ r. ⌜ r ≡ σ0 bits32 x ⌝ }
+{
+    ((x >> 7) | (x << 25)) ^ ((x >> 18) | (x << 14)) ^ (x >> 3)
+}
+
+fn small_sigma1(x: u32) -> u32
+    ensures { λ r. ⌜ r ≡ σ1 bits32 x ⌝ }
+{
+    ((x >> 17) | (x << 15)) ^ ((x >> 19) | (x << 13)) ^ (x >> 10)
+}
+
+// ---- words and bytes
+
+fn join(b0: u8, b1: u8, b2: u8, b3: u8) -> u32
+    ensures { λ r. ⌜ r ≡ ((b0 * 256 + b1) * 256 + b2) * 256 + b3 ⌝ }
+{
+    (b0 as u32) * 0x1000000 + (b1 as u32) * 0x10000 + (b2 as u32) * 0x100 + (b3 as u32)
+}
+
+fn word(b: &[u8], at: usize) -> u32
+    requires { ⌜ at + 4 ≤ length (now b) ⌝ }
+    ensures { λ r. ⌜ r ≡ numberAt (now (b .entry)) at 4 ⌝ }
+{
+    join(b[at], b[at + 1], b[at + 2], b[at + 3])
+}
+
+fn bytes_of(w: u32) -> [u8; 4]
+    ensures { λ r. ⌜ r ≡ bytesOf 4 w ⌝ }
+{
+    let w1 = w / 256;
+    let w2 = w1 / 256;
+    let w3 = w2 / 256;
+    [
+        (w3 % 256) as u8,
+        (w2 % 256) as u8,
+        (w1 % 256) as u8,
+        (w % 256) as u8,
+    ]
+}
+
+// A hash value's eight words.
+fn words_in(v: &[u8]) -> [u32; 8]
+    requires { ⌜ 32 ≤ length (now v) ⌝ }
+    ensures { λ r. ⌜ r ≡ wordsAt (now (v .entry)) 0 4 8 ⌝ }
+{
+    [
+        word(v, 0),
+        word(v, 4),
+        word(v, 8),
+        word(v, 12),
+        word(v, 16),
+        word(v, 20),
+        word(v, 24),
+        word(v, 28),
+    ]
+}
+
+// Its bytes.
+fn value_of(words: [u32; 8]) -> [u8; limits::H_SIZE]
+    ensures { λ r. ⌜ r ≡ valueOf bits32 words ⌝ }
+{
+    let mut out = [0u8; limits::H_SIZE];
+    let mut i = 0;
+    while i < 8 {
+        let b = bytes_of(words[i]);
+        let at = 4 * i;
+        buffers::put_bytes(&mut out, at, &b);
+        i += 1;
+    }
+    out
+}
+
+// ---- a block
+
+fn mix(w2: u32, w7: u32, w15: u32, w16: u32) -> u32
+    ensures { λ r. ⌜ r ≡ mixed bits32 w2 w7 w15 w16 ⌝ }
+{
+    wrapping_add_u32(
+        wrapping_add_u32(wrapping_add_u32(small_sigma1(w2), w7), small_sigma0(w15)),
+        w16,
+    )
+}
+
+// The message schedule.
+fn schedule(b: &[u8]) -> [u32; 64]
+    requires { ⌜ 64 ≤ length (now b) ⌝ }
+    ensures { λ r. ⌜ r ≡ wordsOf bits32 (now (b .entry)) 64 ⌝ }
+{
+    let mut m = [0u32; 64];
+    for i in 0..16 {
+        m[i] = word(b, 4 * i);
+    }
+    for t in 16..64 {
+        m[t] = mix(m[t - 2], m[t - 7], m[t - 15], m[t - 16]);
+    }
+    m
+}
+
+fn round(v: Variables, k: u32, w: u32) -> Variables
+    ensures { λ r. ⌜ working r ≡ oneRound bits32 k w (working v) ⌝ }
+{
+    let ch = (v.e & v.f) ^ (!v.e & v.g);
+    let t1 = wrapping_add_u32(
+        wrapping_add_u32(
+            wrapping_add_u32(wrapping_add_u32(v.h, big_sigma1(v.e)), ch),
+            k,
+        ),
+        w,
+    );
+    let maj = (v.a & v.b) ^ (v.a & v.c) ^ (v.b & v.c);
+    let t2 = wrapping_add_u32(big_sigma0(v.a), maj);
+    Variables {
+        a: wrapping_add_u32(t1, t2),
+        b: v.a,
+        c: v.b,
+        d: v.c,
+        e: wrapping_add_u32(v.d, t1),
+        f: v.e,
+        g: v.f,
+        h: v.g,
+    }
+}
+
+// All rounds. The table is built ahead of them, not at each.
+fn rounds(v: Variables, words: [u32; 64]) -> Variables
+    ensures { λ r. ⌜ working r ≡ roundsOf bits32 words (working v) 64 ⌝ }
+{
+    let k = ROUND;
+    let mut x = v;
+    for t in 0..64 {
+        x = round(x, k[t], words[t]);
+    }
+    x
+}
+
+fn sums(h: [u32; 8], v: Variables) -> [u32; 8]
+    ensures { λ r. ⌜ r ≡ sumsOf 32 h (working v) ⌝ }
+{
+    [
+        wrapping_add_u32(v.a, h[0]),
+        wrapping_add_u32(v.b, h[1]),
+        wrapping_add_u32(v.c, h[2]),
+        wrapping_add_u32(v.d, h[3]),
+        wrapping_add_u32(v.e, h[4]),
+        wrapping_add_u32(v.f, h[5]),
+        wrapping_add_u32(v.g, h[6]),
+        wrapping_add_u32(v.h, h[7]),
+    ]
+}
+
+// The hash value after a block.
+fn next(h: [u32; 8], b: &[u8]) -> [u32; 8]
+    requires { ⌜ 64 ≤ length (now b) ⌝ }
+    ensures { λ r. ⌜ r ≡ nextOf bits32 h (now (b .entry)) ⌝ }
+{
+    let words = schedule(b);
+    let v = rounds(
+        Variables {
+            a: h[0],
+            b: h[1],
+            c: h[2],
+            d: h[3],
+            e: h[4],
+            f: h[5],
+            g: h[6],
+            h: h[7],
+        },
+        words,
+    );
+    sums(h, v)
+}
+
+// ---- a message
+
+// The hash value after the whole blocks of m.
+fn chain(h: [u32; 8], m: &[u8]) -> [u32; 8]
+    ensures { λ r. ⌜ r ≡ after bits32 h (now (m .entry)) ⌝ }
+{
+    let n = m.len() / 64;
+    let mut x = h;
+    let mut i: usize = 0;
+    while i < n {
+        let from = 64 * i;
+        let to = from + 64;
+        let y = next(x, &m[from..to]);
+        x = y;
+        i += 1;
+    }
+    x
+}
+
+// The value after the whole blocks of m; as it was where m is less than one.
+pub fn blocks(value: [u8; limits::H_SIZE], m: &[u8]) -> [u8; limits::H_SIZE]
+    ensures { λ r. ⌜ r ≡ valueAfter bits32 value (now (m .entry)) ⌝ }
+{
+    if m.len() < 64 {
+        return value;
+    }
+    let first = words_in(&value);
+    let last = chain(first, m);
+    value_of(last)
+}
