@@ -1,7 +1,7 @@
 -- What an accepted call hands out is what the book says: hash input and its length, REPLY, and K. Assumes nothing.
 use Prim.Native.Nat.{ℕ, _+_, _≤_}
 use mathlib.Core.Path.{_≡_, refl, sym, ap, _∙_}
-use mathlib.Core.List.{List}
+use mathlib.Core.List.{List, [], _∷_}
 use mathlib.Core.Bool.{Bool, true, false, cond}
 use native.Mathlib.Omega.{arith}
 use lib.ListN.{length, getD, take, drop}
@@ -17,9 +17,10 @@ use Rattle.methods.specs.Rows.{rowOf}
 use Rattle.methods.proofs.FormLaws.{s-least}
 use Rattle.messages.specs.Messages.{replyBytes, fieldOf}
 use Rattle.exchange.specs.Causes.{blobOk, replyCause, signCause, kOf}
+use Rattle.exchange.specs.Numbers.{Kind, accepted, refused, fault, kind, byKind}
 use Rattle.exchange.specs.Record.{kLength}
 use Rattle.exchange.specs.Steps.{Call, secret, sign, verdict, stepNo, fedCause, number, fieldsEnd, filled, taken, kRecord, replyOf, countOf, handedH, roomAfter}
-use Rattle.exchange.specs.Book.{Fields, Book, brings, stepsOf, firstCause, fieldsAfter, moved, noted, hashInput}
+use Rattle.exchange.specs.Book.{Fields, Book, brings, stepsOf, firstCause, fieldsAfter, moved, dropped, noted, hashInput, lastBook}
 use Rattle.exchange.specs.ExchangeTold.{exchangeOf}
 use Rattle.exchange.specs.declared.Classical.{Classical}
 use Rattle.exchange.specs.declared.Kem.{Kem}
@@ -94,6 +95,20 @@ module _ (room : List ℕ) (b : Book) (e : Exchange) (room′ : List ℕ) (h : r
       sym (handed-accepted e room′ q z)
       ∙ (λ i. sized hSize (sha2 (rowOf (l .exchange i .method) .«digest_len») (take (countOf e room′ q) (r i))))
       ∙ ap (λ (m : List ℕ). sized hSize (sha2 (rowOf (b .method) .«digest_len») m)) (secret-handed cl x kem kPq ks s z .1)
+
+-- the book keeps its method
+noted-method : (l : ℕ) (b : Book) (q : Call) → noted l b q .method ≡ b .method
+unfolding noted
+noted-method l b q = by-kind (kind (firstCause l b q))
+  where
+    by-kind : (k : Kind) → byKind k (moved b q) b (dropped b) .method ≡ b .method
+    by-kind accepted = refl
+    by-kind refused = refl
+    by-kind fault = refl
+
+pub book-method : (l : ℕ) (b : Book) (qs : List Call) → lastBook l b qs .method ≡ b .method
+book-method l b [] = refl
+book-method l b (q ∷ qs) = book-method l (noted l b q) qs ∙ noted-method l b q
 
 -- ---- signature and verdict: the book has every field, K too
 
