@@ -58,8 +58,7 @@ secret-hands-out b₀ room₀ calls numbers κs a r s d t z =
     let n = number-none (r .step) (a .0) (now (a .1 .0)) q w z in
     let c = count-none (r .step) (a .0) (now (a .1 .0)) q w z in
     let k = ap (λ (y : SecretStep). y .h) (t .0) ∙ secret-hashed room₀ b (a .0) (now (a .1 .0)) (f .0) (f .1) (a .1 .1 .0) (now (a .1 .1 .1 .0)) (a .1 .1 .1 .1 .0) (now (a .1 .1 .1 .1 .1 .0)) (now (a .1 .1 .1 .1 .1 .1 .0)) (now (a .1 .1 .1 .1 .1 .1 .1 .0)) n in
-    let h = secret-handed room₀ b (a .0) (now (a .1 .0)) (f .0) (f .1) (a .1 .1 .0) (now (a .1 .1 .1 .0)) (a .1 .1 .1 .1 .0) (now (a .1 .1 .1 .1 .1 .0)) (now (a .1 .1 .1 .1 .1 .1 .0)) (now (a .1 .1 .1 .1 .1 .1 .1 .0)) n in
-    (
+    let h = secret-handed room₀ b (a .0) (now (a .1 .0)) (f .0) (f .1) (a .1 .1 .0) (now (a .1 .1 .1 .0)) (a .1 .1 .1 .1 .0) (now (a .1 .1 .1 .1 .1 .0)) (now (a .1 .1 .1 .1 .1 .1 .0)) (now (a .1 .1 .1 .1 .1 .1 .1 .0)) n in (
       c ∙ h .0,
       (λ i. take (c i) (t .1 i)) ∙ h .1,
       k ∙ ap (λ (m : ℕ). sized hSize (sha2 (rowOf m .«digest_len») (hashInput (noted (length room₀) b q .fields)))) (book-method (length room₀) b₀ calls),

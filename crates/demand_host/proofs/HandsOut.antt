@@ -93,8 +93,7 @@ secret-hands-out b₀ room₀ calls numbers κs a r s d t z =
     let n = sym (l .number-is) ∙ z in
     let c = ap first (l .told-is) ∙ count-none e room q n in
     let h = secret-handed room₀ b e room (f .least) (f .sim) cl x kem kPq ks v n in
-    let k = ap (λ (y : List ℕ). drop 1 y) (l .told-is) ∙ secret-hashed room₀ b e room (f .least) (f .sim) cl x kem kPq ks v n in
-    (
+    let k = ap (λ (y : List ℕ). drop 1 y) (l .told-is) ∙ secret-hashed room₀ b e room (f .least) (f .sim) cl x kem kPq ks v n in (
       c ∙ h .0,
       (λ i. take (c i) (l .room-is i)) ∙ h .1,
       k ∙ ap (λ (m : ℕ). sized hSize (sha2 (rowOf m .«digest_len») (hashInput (noted (length room₀) b q .fields)))) (book-method (length room₀) b₀ calls),

@@ -29,14 +29,7 @@ fn k_pq_for(kem: Kem) -> usize
 }
 
 // Whether what the secret step is handed beside X is right: the KEM's presence, K_PQ's length, a server's K_S and S.
-fn rest_ok(
-    role: u8,
-    method: u8,
-    kem: Kem,
-    k_pq: &[u8],
-    ks: &[u8],
-    s: &[u8],
-) -> bool
+fn rest_ok(role: u8, method: u8, kem: Kem, k_pq: &[u8], ks: &[u8], s: &[u8]) -> bool
     ensures { λ r. ⌜ r ≡ restOk role (rowOf method) kem (now («k_pq» .entry)) (now (ks .entry)) (now (s .entry)) ⌝ }
 {
     if methods::is_hybrid(methods::k_form(method)) != is_present(kem) {
@@ -55,14 +48,7 @@ fn rest_ok(
 }
 
 // The refusal for a failed classical primitive: 4 where the rest is wrong, else 16.
-fn failed_cause(
-    role: u8,
-    method: u8,
-    kem: Kem,
-    k_pq: &[u8],
-    ks: &[u8],
-    s: &[u8],
-) -> u8
+fn failed_cause(role: u8, method: u8, kem: Kem, k_pq: &[u8], ks: &[u8], s: &[u8]) -> u8
     ensures { λ r. ⌜ r ≡ causeUnless (restOk role (rowOf method) kem (now («k_pq» .entry)) (now (ks .entry)) (now (s .entry))) 4 16 ⌝ }
 {
     if rest_ok(role, method, kem, k_pq, ks, s) {

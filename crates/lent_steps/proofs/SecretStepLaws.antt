@@ -13,7 +13,6 @@ use Rattle.limits.proofs.RangeLaws.{within-most}
 use Rattle.buffers.specs.Bytes.{zeros, onto, over, laid}
 use Rattle.buffers.proofs.ByteLaws.{length-over, over-over, laid-fits}
 use Rattle.wire.specs.Parts.{part, inside, bytesAt}
-use Rattle.wire.specs.Strings.{string}
 use Rattle.wire.proofs.PartLaws.{inside-fits}
 use Rattle.sha_words.specs.Message.{sha2, sized}
 use Rattle.sha_words.proofs.DigestLaws.{length-sha2}
@@ -24,7 +23,7 @@ use Rattle.sha2.proofs.WholeLaws.{digested-known}
 use Rattle.methods.specs.Rows.{rowOf, kMost}
 use Rattle.methods.proofs.FormLaws.{length-most}
 use Rattle.methods.specs.declared.KForm.{KForm}
-use Rattle.methods.specs.declared.KForm.the-variants.{Mpint, Digest as Hashed}
+use Rattle.methods.specs.declared.KForm.the-variants.{Mpint}
 use Rattle.methods.specs.Sound.{Sound}
 use Rattle.secret.specs.Secret.{kBytes, kept}
 use Rattle.secret.specs.declared.Secret.{Secret}
@@ -89,13 +88,14 @@ key-kept k g h f =
 -- ---- K by its form, and H
 
 module _ (m : ℕ) (f : KForm) (x kPq : List ℕ) (r : f ≡ rowOf m .«k_form») where
-  pub key-number : f ≡ Mpint → kept (kBytes Mpint x []) ≡ kept (kOf m x kPq)
-  key-number e = ap (λ (w : KForm). kept (kBytes w x (sha2 (rowOf m .«digest_len») (kPq ++ x)))) (sym e ∙ r)
+  pub key-number : f ≡ Mpint → (d : List ℕ) → kept (kBytes f x d) ≡ kept (kOf m x kPq)
+  key-number e d =
+      ap (λ (w : KForm). kept (kBytes w x d)) e ∙ ap (λ (w : KForm). kept (kBytes w x (sha2 (rowOf m .«digest_len») (kPq ++ x)))) (sym e ∙ r)
 
   -- the digest stands at the beginning of what was hashed
-  pub key-digest : f ≡ Hashed → methodOk m ≡ true → length kPq + length x ≤ hashMost → (len : ℕ) (d : Digest) (src : List ℕ) → len ≡ rowOf m .«digest_len»
-      → d ≡ digested len (kPq ++ x) → src ≡ bytesAt (d .bytes) (inside (length (d .bytes)) (part 0 len)) → string src ≡ kOf m x kPq
-  key-digest e ok h len d src l g p =
+  pub key-digest : methodOk m ≡ true → length kPq + length x ≤ hashMost → (len : ℕ) (d : Digest) (src : List ℕ) → len ≡ rowOf m .«digest_len»
+      → d ≡ digested len (kPq ++ x) → src ≡ bytesAt (d .bytes) (inside (length (d .bytes)) (part 0 len)) → kBytes f x src ≡ kOf m x kPq
+  key-digest ok h len d src l g p =
       let row = method-row m ok in
       let n : ℕ = rowOf m .«digest_len» in
       let t : List ℕ = sha2 n (kPq ++ x) in
@@ -103,9 +103,9 @@ module _ (m : ℕ) (f : KForm) (x kPq : List ℕ) (r : f ≡ rowOf m .«k_form»
       let b : d .bytes ≡ sized hSize t =
       ap (λ (y : Digest). y .bytes) (g ∙ ap (λ (y : ℕ). digested y (kPq ++ x)) l ∙ digested-known n (kPq ++ x) (row .digest-kind) (omega (arith, length-append kPq x))) in
       let w : n ≤ length (sized hSize t) = omega (arith, length-sized hSize t (omega (arith, row .digest-most)), row .digest-most) in
-      ap string
-      (p ∙ (λ i. bytesAt (b i) (inside (length (b i)) (part 0 (l i)))) ∙ ap (bytesAt (sized hSize t)) (inside-fits (length (sized hSize t)) (part 0 n) (omega arith)) ∙ take-sized hSize n t k)
-      ∙ ap (λ (y : KForm). kBytes y x t) (sym e ∙ r)
+      let c : src ≡ t =
+      p ∙ (λ i. bytesAt (b i) (inside (length (b i)) (part 0 (l i)))) ∙ ap (bytesAt (sized hSize t)) (inside-fits (length (sized hSize t)) (part 0 n) (omega arith)) ∙ take-sized hSize n t k in
+      λ i. kBytes (r i) x (c i)
 
 pub hash-is : (m : ℕ) (a b room : List ℕ) (n len : ℕ) (d : Digest) → methodOk m ≡ true → n ≤ hashMost → n ≤ length room → len ≡ rowOf m .«digest_len» → a ≡ take n room → b ≡ []
     → d ≡ digested len (a ++ b) → d .bytes ≡ sized hSize (sha2 (rowOf m .«digest_len») (take n room))

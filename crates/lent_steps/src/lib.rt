@@ -88,19 +88,19 @@ fn join_own(ex: &mut [u8], room: &mut [u8], role: u8, ks: &[u8], s: &[u8])
     lent::with_s(ex, room, stored::SECRET_DONE, ks, s);
 }
 
-// K in the method's form. Only a hybrid's is hashed: K_PQ and then X.
+// K in the method's form. Only a hybrid's is by the hash, of K_PQ and then X: K of a number has no digest to look at.
 fn key_of(method: u8, x: &[u8], k_pq: &[u8]) -> Secret
     requires { ⌜ (methodOk method ≡ true) × (length (now «k_pq») + length (now x) ≤ hashMost) ⌝ }
     ensures { λ r. ⌜ r ≡ kept (kOf method (now (x .entry)) (now («k_pq» .entry))) ⌝ }
 {
     let form = methods::k_form(method);
     let KForm::Digest = form else {
-        return secret::k_from_x(x);
+        return secret::k_of(form, x, k_pq);
     };
     let len = methods::digest_len(method);
     let d = sha2::hash_of(len, k_pq, x);
     let bytes = d.bytes;
-    secret::k_from_digest(wire::part_of(&bytes, Part { start: 0, len }))
+    secret::k_of(form, x, wire::part_of(&bytes, Part { start: 0, len }))
 }
 
 // K joins the room behind the other fields, and the exchange. Answers where K begins.

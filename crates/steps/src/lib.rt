@@ -48,9 +48,7 @@ pub fn take_secret(
         return SecretStep { step, h };
     }
     let mut count = 0u64;
-    let n = lent_steps::take_secret(
-        &mut b, room, cl, x, kem, k_pq, ks, s, &mut count, &mut h,
-    );
+    let n = lent_steps::take_secret(&mut b, room, cl, x, kem, k_pq, ks, s, &mut count, &mut h);
     let step = by_value::answer(n, count, 0, &b);
     SecretStep { step, h }
 }

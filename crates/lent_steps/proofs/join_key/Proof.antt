@@ -36,8 +36,7 @@ same-length-2 c = search needs
 
 returns : tie.Need-returns
 returns c =
-    let a = c .before .before .before .before .before .before .before .before .before .before .before .before .before .before .before .before .before .args in
-    (
+    let a = c .before .before .before .before .before .before .before .before .before .before .before .before .before .before .before .before .before .args in (
       c .before .before .before .before .before .before .before .before .before .before .before .fields-end .ensures ∙ ap fieldsSize (c .before .before .before .before .before .before .before .before .before .before .before .before .lengths-in .ensures .0),
       c .before .before .before .before .before .before .before .put-bytes .ensures ∙ ap (laid (now (a .room)) (c .before .before .before .before .before .before .before .before .before .before .before .fields-end .result)) (c .before .before .before .before .before .before .before .before .part-of .ensures .0),
       c .before .before .put-k .ensures,

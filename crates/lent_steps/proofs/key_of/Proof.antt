@@ -16,13 +16,13 @@ enum-told c = search needs
 enum-told-2 : tie.Need-enum-told-2
 enum-told-2 c = search needs
 
-k-from-x-requires : tie.Need-k-from-x-requires
-k-from-x-requires c κs = search needs
+k-of-requires : tie.Need-k-of-requires
+k-of-requires c κs = search needs
 
 returns : tie.Need-returns
 returns c =
     let a = c .before .before .before .before .before .before .args in
-    c .k-from-x .ensures ∙ key-number (a .method) _ (now (a .x)) (now (a .k-pq)) (c .before .before .before .k-form .ensures) (c .before .enum-told2 .given .1)
+    c .k-of .ensures ∙ key-number (a .method) _ (now (a .x)) (now (a .k-pq)) (c .before .before .before .k-form .ensures) (c .before .enum-told2 .given .1) (now (a .k-pq))
 
 digest-len-requires : tie.Need-digest-len-requires
 digest-len-requires c κs = search needs
@@ -36,15 +36,15 @@ slice-aggregate-part-of c = search needs
 part-of-requires : tie.Need-part-of-requires
 part-of-requires c κs = search needs
 
-k-from-digest-requires : tie.Need-k-from-digest-requires
-k-from-digest-requires c κs = search needs
+k-of-requires-2 : tie.Need-k-of-requires-2
+k-of-requires-2 c κs = search needs
 
 returns-2 : tie.Need-returns-2
 returns-2 c =
     let s = c .before .before .before .before .before .before .before .before .before .before .before in
     let a = s .args in
-    c .k-from-digest .ensures
-    ∙ ap kept (key-digest (a .method) _ (now (a .x)) (now (a .k-pq)) (c .before .before .before .before .before .before .before .before .k-form .ensures) (c .before .before .before .before .before .before .enum-told .given .1) (s .pre .0) (s .pre .1) _ _ _ (c .before .before .before .before .before .digest-len .ensures) (c .before .before .before .before .hash-of .ensures) (c .before .part-of .ensures .0))
+    c .k-of2 .ensures
+    ∙ ap kept (key-digest (a .method) _ (now (a .x)) (now (a .k-pq)) (c .before .before .before .before .before .before .before .before .k-form .ensures) (s .pre .0) (s .pre .1) _ _ _ (c .before .before .before .before .before .digest-len .ensures) (c .before .before .before .before .hash-of .ensures) (c .before .part-of .ensures .0))
 
 pub key-of-spec : {M : Type 1} → statement M
 key-of-spec =
@@ -53,11 +53,11 @@ key-of-spec =
     k-form-requires
     enum-told
     enum-told-2
-    k-from-x-requires
+    k-of-requires
     returns
     digest-len-requires
     hash-of-requires
     slice-aggregate-part-of
     part-of-requires
-    k-from-digest-requires
+    k-of-requires-2
     returns-2)
