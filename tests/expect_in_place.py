@@ -8,14 +8,16 @@ Writes crates/in_place_run/stdin and stdout; with --check it only compares, and 
 import sys
 
 sys.dont_write_bytecode = True
-from captured import capture, string
+from captured import capture, string, words
 from held import ROOT, written
 
-FIELDS = ("V_C", "V_S", "I_C", "I_S", "C", "X", "digest", "K_S", "S", "INIT", "REPLY")
+FIELDS = ("V_C", "V_S", "I_C", "I_S", "C", "X", "K_PQ", "K_S", "S", "INIT", "REPLY")
 STARTED = ("V_C", "V_S", "I_C", "I_S")
 HASHED = (*STARTED, "K_S", "C", "S")
 
-f = capture("client-9-openssh-10.0")
+NAME = "client-9-openssh-10.0"
+f = capture(NAME)
+f |= {field: bytes.fromhex(words(ROOT / "tests/captures" / f"{NAME}.txt")[field]) for field in ("K_PQ", "H")}
 room = bytearray(b"\x55" * 14156)
 lines = []
 
@@ -38,12 +40,18 @@ def call(name, number, count=0):
     lines.append(f"{name} {number} {count} {checksum(room)}\n")
 
 
+def secret(number, count=0, h=b""):
+    """The secret's answer has H beside it, zeros after it."""
+    call("secret", number, count)
+    lines.append(f"H {h.ljust(64, bytes(1)).hex()}\n")
+
+
 def client():
     laid((*STARTED, "C"))
     call("INIT", 1)
     laid(HASHED)
     call("REPLY", 0)
-    call("secret", 0, laid(HASHED, f["K"]))
+    secret(0, laid(HASHED, f["K"]), f["H"])
     call("verdict", 0, len(f["K"]))
     lines.append(f"K {checksum(f['K'].ljust(71, bytes(1)))}\n")
 
@@ -52,14 +60,14 @@ def server():
     laid(STARTED)
     laid((*STARTED, "C"))
     call("INIT", 0)
-    call("secret", 0, laid(HASHED, f["K"]))
+    secret(0, laid(HASHED, f["K"]), f["H"])
 
 
 def fault():
     """A REPLY for an INIT."""
     room[:] = bytes(len(room))
     call("INIT", 11)
-    call("secret", 1)
+    secret(1)
 
 
 def main():

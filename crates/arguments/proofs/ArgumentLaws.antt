@@ -61,9 +61,9 @@ kem-wrong m n h =
     (form-wrong (rowOf m .«k_form»))
 
 -- so that the secret's cause is 4 with it
-pub kem-four : (role m n : ℕ) (cl : Classical) (x d ks s : List ℕ) → 2 < n → secretCause role m cl x (kemOf m n) d ks s ≡ 4
+pub kem-four : (role m n : ℕ) (cl : Classical) (x kPq ks s : List ℕ) → 2 < n → secretCause role m cl x (kemOf m n) kPq ks s ≡ 4
 unfolding secretCause restOk
-kem-four role m n cl x d ks s h = unless-fails _ 4 _ (second (xOk (rowOf m) cl x) (kemOk (rowOf m) (kemOf m n)) _ _ (kem-wrong m n h))
+kem-four role m n cl x kPq ks s h = unless-fails _ 4 _ (second (xOk (rowOf m) cl x) (kemOk (rowOf m) (kemOf m n)) _ _ (kem-wrong m n h))
   where
     second : (a b c d : Bool) → b ≡ false → a && (b && c && d) ≡ false
     second true b c d e = rw e

@@ -1,5 +1,6 @@
 // The C boundary: every entry of the core, exported. Only what every C calling convention agrees on crosses: slices as a pointer and a
-// 64-bit length, pointers to 64-bit numbers, and 64-bit numbers. A call returns its number; what else it tells goes through lent numbers.
+// 64-bit length, pointers to 64-bit numbers and to H's 64 bytes, and 64-bit numbers. A call returns its number; what else it tells goes through
+// lent numbers.
 use names::Cursor;
 ghost use mathlib.Core.Path.{_≡_};
 ghost use mathlib.Core.List.{[], _∷_, _++_};
@@ -262,7 +263,7 @@ pub extern "C" fn castulfrisa_read_reply(
     lent_client::read_reply(ex, room, payload, places) as u64
 }
 
-// Both roles, the secret. Told: the hash input's count.
+// Both roles, the secret. Told: the hash input's count, and H as 64 bytes; zeros on a refusal.
 #[no_mangle]
 pub extern "C" fn castulfrisa_take_secret(
     ex: &mut [u8],
@@ -271,18 +272,19 @@ pub extern "C" fn castulfrisa_take_secret(
     x_count: u64,
     x: &[u8],
     kem: u64,
-    digest: &[u8],
+    k_pq: &[u8],
     ks: &[u8],
     s: &[u8],
     count: &mut u64,
+    h: &mut [u8; limits::H_SIZE],
 ) -> u64
     ensures { λ n.
-        let q = secretStep (classicalOf given «x_count») (now (x .entry)) (kemOf (decoded (now (ex .entry)) .method) kem) (now (digest .entry)) (now (ks .entry)) (now (s .entry)) in
-        ⌜ left n (now (count .exit) ∷ []) (now (ex .exit)) (now (room .exit)) [] ≡ lentCall (now (ex .entry)) (now (room .entry)) q [] ⌝ }
+        let q = secretStep (classicalOf given «x_count») (now (x .entry)) (kemOf (decoded (now (ex .entry)) .method) kem) (now («k_pq» .entry)) (now (ks .entry)) (now (s .entry)) in
+        ⌜ left n (now (count .exit) ∷ now (h .exit)) (now (ex .exit)) (now (room .exit)) [] ≡ lentCall (now (ex .entry)) (now (room .entry)) q [] ⌝ }
 {
     let cl = arguments::classical_of(given, x_count);
     let km = arguments::kem_of(stored::byte_in(ex, stored::METHOD_AT), kem);
-    lent_steps::take_secret(ex, room, cl, x, km, digest, ks, s, count) as u64
+    lent_steps::take_secret(ex, room, cl, x, km, k_pq, ks, s, count, h) as u64
 }
 
 // Server, the signature. Told: REPLY's count and K's.

@@ -22,7 +22,7 @@ use Rattle.exchange.proofs.StepLaws.{step-refused}
 use Rattle.stored.specs.Stored.{encoded, decoded, blank, byFit, bySize}
 use Rattle.stored.proofs.StoredLaws.{size-taken, fits-known}
 use Rattle.stored.proofs.RoundTrip.{Short, decoded-encoded, encoded-fits}
-use Rattle.lent.specs.Lent.{Left, left, writes, outputsAfter, untouched, lentCall, startLeft, lentStart}
+use Rattle.lent.specs.Lent.{Left, left, tells, writes, outputsAfter, untouched, lentCall, startLeft, lentStart}
 use Rattle.lent.proofs.Kept.{Storable, step-storable, start-storable, lent-is-step, long-not-due, long-refused}
 use Rattle.lent.proofs.AsStep.{AsStep, as-step}
 use Rattle.by_value.specs.ByValue.{fitsTwo, withExchange, back}
@@ -105,6 +105,12 @@ module _ (e : Exchange) (room : List ℕ) (q : Call) (t : Bool) (b : List ℕ) (
         let d = f a in
         let x = exchange-back (exchangeAfter e room q) ex (step-storable e room q (s .0)) (a .exchange-is) in
         ((λ i. record { number = a .number-is i; count = d .0 i; second = d .1 i; exchange = x i }), a .room-is, a .outputs-are)
+
+    -- and all that was told
+    pub value-told : told ≡ tells e room q
+    value-told =
+        let s = laid-short e t b l h k in
+        as-step b e room q outs n told ex room′ outs′ (s .1) (s .0) c .told-is
 
 -- counts that no number tells
 pub count-none : (e : Exchange) (room : List ℕ) (q : Call) → countOf e room q ≡ 0 → 0 ≡ answered e room q .count

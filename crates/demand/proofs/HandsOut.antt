@@ -4,16 +4,19 @@ use mathlib.Core.Path.{_≡_, sym, ap, _∙_}
 use mathlib.Core.List.{List}
 use lib.ListN.{length, take}
 use denote.Ref.{now}
-use Rattle.limits.specs.Limits.{roomLeast}
+use Rattle.limits.specs.Limits.{hSize, roomLeast}
 use Rattle.buffers.specs.Bytes.{onto}
+use Rattle.sha_words.specs.Message.{sha2, sized}
+use Rattle.methods.specs.Rows.{rowOf}
 use Rattle.exchange.specs.Causes.{startCause}
-use Rattle.exchange.specs.Steps.{Call, secret, sign, verdict, number, countOf, secondOf, answered, replyOf, started, startedRoom}
-use Rattle.exchange.specs.Book.{Book, opened, lastBook}
+use Rattle.exchange.specs.Steps.{Call, secret, sign, verdict, number, countOf, secondOf, answered, secretAnswered, replyOf, started, startedRoom}
+use Rattle.exchange.specs.Book.{Book, opened, noted, lastBook, hashInput}
 use Rattle.exchange.specs.declared.Step.{Step}
+use Rattle.exchange.specs.declared.SecretStep.{SecretStep}
 use Rattle.exchange.specs.declared.Exchange.{Exchange}
 use Rattle.exchange.proofs.StepLaws.{step-accepted, output-accepted}
 use Rattle.exchange.proofs.Simulation.{Sim, followed}
-use Rattle.exchange.proofs.HandedLaws.{secret-handed, sign-handed, verdict-handed}
+use Rattle.exchange.proofs.HandedLaws.{secret-handed, secret-hashed, book-method, sign-handed, verdict-handed}
 use Rattle.demand.specs.Told.{Told}
 use Rattle.demand.specs.HandedOut.{SecretHandsOut, SignHandsOut, VerdictHandsOut, HandedOut}
 use Rattle.demand.proofs.Holds.{AsDefined, runs}
@@ -46,14 +49,20 @@ module _ (r : Step) (e : Exchange) (room : List ℕ) (q : Call) (t : r ≡ answe
   second-none = ap (λ (x : Step). x .second) t ∙ sym (ap (λ (x : Step). x .second) (step-accepted e room q number-none .0))
 
 secret-hands-out : SecretHandsOut
+unfolding secretAnswered
 secret-hands-out b₀ room₀ calls numbers κs a r s d t z =
     let b = lastBook (length room₀) b₀ calls in
     let f = follows d in
     let q = secret (a .1 .1 .0) (now (a .1 .1 .1 .0)) (a .1 .1 .1 .1 .0) (now (a .1 .1 .1 .1 .1 .0)) (now (a .1 .1 .1 .1 .1 .1 .0)) (now (a .1 .1 .1 .1 .1 .1 .1 .0)) in
-    let n = number-none r (a .0) (now (a .1 .0)) q (t .0) z in
-    let c = count-none r (a .0) (now (a .1 .0)) q (t .0) z in
-    let h = secret-handed room₀ b (a .0) (now (a .1 .0)) (f .0) (f .1) (a .1 .1 .0) (now (a .1 .1 .1 .0)) (a .1 .1 .1 .1 .0) (now (a .1 .1 .1 .1 .1 .0)) (now (a .1 .1 .1 .1 .1 .1 .0)) (now (a .1 .1 .1 .1 .1 .1 .1 .0)) n in
-    (c ∙ h .0, (λ i. take (c i) (t .1 i)) ∙ h .1)
+    let w = ap (λ (y : SecretStep). y .step) (t .0) in
+    let n = number-none (r .step) (a .0) (now (a .1 .0)) q w z in
+    let c = count-none (r .step) (a .0) (now (a .1 .0)) q w z in
+    let k = ap (λ (y : SecretStep). y .h) (t .0) ∙ secret-hashed room₀ b (a .0) (now (a .1 .0)) (f .0) (f .1) (a .1 .1 .0) (now (a .1 .1 .1 .0)) (a .1 .1 .1 .1 .0) (now (a .1 .1 .1 .1 .1 .0)) (now (a .1 .1 .1 .1 .1 .1 .0)) (now (a .1 .1 .1 .1 .1 .1 .1 .0)) n in
+    let h = secret-handed room₀ b (a .0) (now (a .1 .0)) (f .0) (f .1) (a .1 .1 .0) (now (a .1 .1 .1 .0)) (a .1 .1 .1 .1 .0) (now (a .1 .1 .1 .1 .1 .0)) (now (a .1 .1 .1 .1 .1 .1 .0)) (now (a .1 .1 .1 .1 .1 .1 .1 .0)) n in (
+      c ∙ h .0,
+      (λ i. take (c i) (t .1 i)) ∙ h .1,
+      k ∙ ap (λ (m : ℕ). sized hSize (sha2 (rowOf m .«digest_len») (hashInput (noted (length room₀) b q .fields)))) (book-method (length room₀) b₀ calls),
+    )
 
 sign-hands-out : SignHandsOut
 unfolding countOf secondOf

@@ -5,10 +5,11 @@ use mathlib.Core.List.{List, _∷_}
 use lib.ListN.{length}
 use denote.Ref.{now}
 use Rattle.exchange.specs.Causes.{startCause}
-use Rattle.exchange.specs.Steps.{Call, answered, number, exchangeAfter, roomAfter, started, startedRoom}
+use Rattle.exchange.specs.Steps.{Call, answered, secretAnswered, number, exchangeAfter, roomAfter, started, startedRoom}
 use Rattle.exchange.specs.Book.{Book, opened}
 use Rattle.exchange.specs.Demand.{numbersOf, lastExchange, lastRoom, Held}
 use Rattle.exchange.specs.declared.Step.{Step}
+use Rattle.exchange.specs.declared.SecretStep.{SecretStep}
 use Rattle.exchange.specs.declared.Exchange.{Exchange}
 use Rattle.exchange.proofs.Simulation.{held, start-zero, sign-room}
 use Rattle.demand.specs.History.{History, no-call, own-c, read-init, read-reply, take-secret, give-sign, give-verdict}
@@ -35,11 +36,12 @@ one-more {e} {room} {q} {r} {room₁} {qs} {ns} t u s =
     }
 
 pub as-defined : {e : Exchange} {room : List ℕ} {qs : List Call} {ns : List ℕ} {e′ : Exchange} {room′ : List ℕ} → History e room qs ns e′ room′ → AsDefined e room qs ns e′ room′
+unfolding secretAnswered
 as-defined no-call = record { numbers = refl; exchange = refl; rooms = refl }
 as-defined (own-c κs a r s t h) = one-more (t .0) (t .1) (as-defined h)
 as-defined (read-init κs a r s t h) = one-more (t .0) (t .1) (as-defined h)
 as-defined (read-reply κs a r s t h) = one-more (t .0) (t .1) (as-defined h)
-as-defined (take-secret κs a r s t h) = one-more (t .0) (t .1) (as-defined h)
+as-defined (take-secret κs a r s t h) = one-more (ap (λ (y : SecretStep). y .step) (t .0)) (t .1) (as-defined h)
 as-defined (give-sign κs a r s t h) = one-more (t .0) (sym (sign-room (a .0) (now (a .1 .0)) _ _ _)) (as-defined h)
 as-defined (give-verdict κs a r s t h) = one-more (t .0) (t .1) (as-defined h)
 

@@ -10,7 +10,7 @@ use Rattle.buffers.specs.Bytes.{zeros}
 use Rattle.messages.specs.Messages.{initBytes}
 use Rattle.limits.specs.Limits.{roomLeast}
 use Rattle.exchange.specs.Causes.{methodOk, roleOk, startCause}
-use Rattle.exchange.specs.Steps.{Call, ownC, init, reply, secret, sign, verdict, number, replyOf, answered, exchangeAfter, roomAfter, outputAfter, started, startedRoom}
+use Rattle.exchange.specs.Steps.{Call, ownC, init, reply, secret, sign, verdict, number, replyOf, answered, secretAnswered, exchangeAfter, roomAfter, outputAfter, started, startedRoom}
 use Rattle.exchange.specs.Book.{opened}
 use Rattle.exchange.specs.Demand.{numbersOf, lastExchange, lastRoom}
 use Rattle.exchange.proofs.Sample.{version, payload, sampleCalls}
@@ -65,7 +65,7 @@ module _ (l : Lft) (g : GName) where
 
   -- the definitions' run is a history: outputs of zeros have every length
   pub reached : (e : Exchange) (room : List ℕ) (qs : List Call) → Reaches e room qs
-  unfolding answered lent
+  unfolding answered secretAnswered lent
   reached e room [] = no-call
   reached e room (ownC c out ∷ qs) =
       subst (λ (n : ℕ). Reaches e room (ownC c n ∷ qs)) (length-zeros out) (own-c-then e room qs c (zeros out) (reached _ _ qs))
@@ -75,10 +75,10 @@ module _ (l : Lft) (g : GName) where
   reached e room (reply p ∷ qs) =
       read-reply (l, (l, tt)) (e, (lent room, (lent p, tt))) (answered e room (reply p)) (e, (lent (roomAfter e room (reply p)), (lent p, tt)))
       (refl, refl) (reached (exchangeAfter e room (reply p)) (roomAfter e room (reply p)) qs)
-  reached e room (secret cl x kem d ks s ∷ qs) =
-      take-secret (l, (l, (l, (l, (l, tt))))) (e, (lent room, (cl, (lent x, (kem, (lent d, (lent ks, (lent s, tt)))))))) (answered e room (secret cl x kem d ks s))
-      (e, (lent (roomAfter e room (secret cl x kem d ks s)), (cl, (lent x, (kem, (lent d, (lent ks, (lent s, tt))))))))
-      (refl, refl) (reached (exchangeAfter e room (secret cl x kem d ks s)) (roomAfter e room (secret cl x kem d ks s)) qs)
+  reached e room (secret cl x kem kPq ks s ∷ qs) =
+      take-secret (l, (l, (l, (l, (l, tt))))) (e, (lent room, (cl, (lent x, (kem, (lent kPq, (lent ks, (lent s, tt)))))))) (secretAnswered e room (secret cl x kem kPq ks s))
+      (e, (lent (roomAfter e room (secret cl x kem kPq ks s)), (cl, (lent x, (kem, (lent kPq, (lent ks, (lent s, tt))))))))
+      (refl, refl) (reached (exchangeAfter e room (secret cl x kem kPq ks s)) (roomAfter e room (secret cl x kem kPq ks s)) qs)
   reached e room (sign g out kOut ∷ qs) =
       subst (λ (n : ℕ). Reaches e room (sign g n kOut ∷ qs)) (length-zeros out)
       (subst (λ (n : ℕ). Reaches e room (sign g (length (zeros out)) n ∷ qs)) (length-zeros kOut) (sign-then e room qs g (zeros out) (zeros kOut) (reached _ _ qs)))

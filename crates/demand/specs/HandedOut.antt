@@ -1,5 +1,5 @@
--- What a further call hands out after an accepted start and any history, by the book of the same calls: the hash input, REPLY, and K. The
--- call is told by `Reads.Learnt` of its own function, as in the history. Assumes nothing.
+-- What a further call hands out after an accepted start and any history, by the book of the same calls: the hash input, H, REPLY, and K.
+-- The call is told by `Reads.Learnt` of its own function, as in the history. Assumes nothing.
 use Prim.Native.Nat.{ℕ}
 use mathlib.Core.Path.{_≡_}
 use mathlib.Core.List.{List}
@@ -8,12 +8,16 @@ use contract.Lifetimes.{Lfts}
 use denote.Ref.{now}
 use denote.Triple.Clauses.{AtExit}
 use borrow.Fn.World.{ArgsD}
+use Rattle.limits.specs.Limits.{hSize}
 use Rattle.buffers.specs.Bytes.{onto}
+use Rattle.sha_words.specs.Message.{sha2, sized}
+use Rattle.methods.specs.Rows.{rowOf}
 use Rattle.messages.specs.Messages.{replyBytes, fieldOf}
 use Rattle.exchange.specs.Causes.{replyCause}
 use Rattle.exchange.specs.Steps.{Call, secret, kRecord}
 use Rattle.exchange.specs.Book.{Book, noted, lastBook, hashInput}
 use Rattle.exchange.specs.declared.Step.{Step}
+use Rattle.exchange.specs.declared.SecretStep.{SecretStep}
 use Rattle.steps.proofs.take_secret as take-secret-fn
 use Rattle.steps.proofs.take_secret.Reads as take-secret-reads
 use Rattle.server.proofs.sign as sign-fn
@@ -22,15 +26,16 @@ use Rattle.client.proofs.verdict as verdict-fn
 use Rattle.client.proofs.verdict.Reads as verdict-reads
 use Rattle.demand.specs.Told.{Told}
 
--- an accepted secret step counts the hash input, and the room begins with it
+-- an accepted secret step counts the hash input, the room begins with it, and the H that was handed out is its hash, by the method that was
+-- started: what is signed or verified is a function of the book alone
 abbrev pub SecretHandsOut : Type 0
 SecretHandsOut =
     (b₀ : Book) (room₀ : List ℕ) (calls : List Call) (numbers : List ℕ)
-    (κs : Lfts 5) (a : ArgsD take-secret-fn.signature κs) (r : Step) (s : AtExit take-secret-fn.ended κs)
-    → Told b₀ room₀ calls numbers (a .0) (now (a .1 .0)) → take-secret-reads.Learnt κs a r s → r .number ≡ 0
+    (κs : Lfts 5) (a : ArgsD take-secret-fn.signature κs) (r : SecretStep) (s : AtExit take-secret-fn.ended κs)
+    → Told b₀ room₀ calls numbers (a .0) (now (a .1 .0)) → take-secret-reads.Learnt κs a r s → r .step .number ≡ 0
     → let q = secret (a .1 .1 .0) (now (a .1 .1 .1 .0)) (a .1 .1 .1 .1 .0) (now (a .1 .1 .1 .1 .1 .0)) (now (a .1 .1 .1 .1 .1 .1 .0)) (now (a .1 .1 .1 .1 .1 .1 .1 .0)) in
     let h = hashInput (noted (length room₀) (lastBook (length room₀) b₀ calls) q .fields) in
-    (r .count ≡ length h) × (take (r .count) (now (s .1 .0)) ≡ h)
+    (r .step .count ≡ length h) × (take (r .step .count) (now (s .1 .0)) ≡ h) × (r .h ≡ sized hSize (sha2 (rowOf (b₀ .method) .«digest_len») h))
 
 -- an accepted signature writes REPLY of the book's K_S and S, which is read with 0 and gives the same fields back, and K's record; its
 -- counts are their lengths

@@ -11,6 +11,7 @@ use denote.Triple.Clauses.{AtExit}
 use borrow.Fn.World.{ArgsD}
 use Rattle.exchange.specs.Steps.{Call, ownC, init, reply, secret, sign, verdict}
 use Rattle.exchange.specs.declared.Step.{Step}
+use Rattle.exchange.specs.declared.SecretStep.{SecretStep}
 use Rattle.exchange.specs.declared.Exchange.{Exchange}
 use Rattle.client.proofs.own_c as own-c-fn
 use Rattle.client.proofs.own_c.Reads as own-c-reads
@@ -37,9 +38,9 @@ pub data History : Exchange → List ℕ → List Call → List ℕ → Exchange
   read-reply : {qs : List Call} {ns : List ℕ} {e′ : Exchange} {room′ : List ℕ} (κs : Lfts 2) (a : ArgsD read-reply-fn.signature κs) (r : Step) (s : AtExit read-reply-fn.ended κs) →
       read-reply-reads.Learnt κs a r s → History (r .exchange) (now (s .1 .0)) qs ns e′ room′ →
       History (a .0) (now (a .1 .0)) (reply (now (a .1 .1 .0)) ∷ qs) (r .number ∷ ns) e′ room′
-  take-secret : {qs : List Call} {ns : List ℕ} {e′ : Exchange} {room′ : List ℕ} (κs : Lfts 5) (a : ArgsD take-secret-fn.signature κs) (r : Step) (s : AtExit take-secret-fn.ended κs) →
-      take-secret-reads.Learnt κs a r s → History (r .exchange) (now (s .1 .0)) qs ns e′ room′ →
-      History (a .0) (now (a .1 .0)) (secret (a .1 .1 .0) (now (a .1 .1 .1 .0)) (a .1 .1 .1 .1 .0) (now (a .1 .1 .1 .1 .1 .0)) (now (a .1 .1 .1 .1 .1 .1 .0)) (now (a .1 .1 .1 .1 .1 .1 .1 .0)) ∷ qs) (r .number ∷ ns) e′ room′
+  take-secret : {qs : List Call} {ns : List ℕ} {e′ : Exchange} {room′ : List ℕ} (κs : Lfts 5) (a : ArgsD take-secret-fn.signature κs) (r : SecretStep) (s : AtExit take-secret-fn.ended κs) →
+      take-secret-reads.Learnt κs a r s → History (r .step .exchange) (now (s .1 .0)) qs ns e′ room′ →
+      History (a .0) (now (a .1 .0)) (secret (a .1 .1 .0) (now (a .1 .1 .1 .0)) (a .1 .1 .1 .1 .0) (now (a .1 .1 .1 .1 .1 .0)) (now (a .1 .1 .1 .1 .1 .1 .0)) (now (a .1 .1 .1 .1 .1 .1 .1 .0)) ∷ qs) (r .step .number ∷ ns) e′ room′
   give-sign : {qs : List Call} {ns : List ℕ} {e′ : Exchange} {room′ : List ℕ} (κs : Lfts 4) (a : ArgsD sign-fn.signature κs) (r : Step) (s : AtExit sign-fn.ended κs) →
       sign-reads.Learnt κs a r s → History (r .exchange) (now (a .1 .0)) qs ns e′ room′ →
       History (a .0) (now (a .1 .0)) (sign (now (a .1 .1 .0)) (length (now (a .1 .1 .1 .0))) (length (now (a .1 .1 .1 .1 .0))) ∷ qs) (r .number ∷ ns) e′ room′

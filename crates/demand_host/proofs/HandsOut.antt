@@ -2,18 +2,20 @@
 use Prim.Native.Nat.{ℕ, _≤_}
 use mathlib.Core.Path.{_≡_, sym, ap, subst, _∙_}
 use mathlib.Core.List.{List, [], _∷_}
-use lib.ListN.{length, getD, take}
+use lib.ListN.{length, getD, take, drop}
 use denote.Ref.{now}
-use Rattle.limits.specs.Limits.{roomLeast}
+use Rattle.limits.specs.Limits.{hSize, roomLeast}
 use Rattle.buffers.specs.Bytes.{onto}
+use Rattle.sha_words.specs.Message.{sha2, sized}
+use Rattle.methods.specs.Rows.{rowOf}
 use Rattle.exchange.specs.Steps.{Call, secret, sign, verdict, number, countOf, secondOf, answered, replyOf, started, startedRoom}
-use Rattle.exchange.specs.Book.{Book, opened, lastBook}
+use Rattle.exchange.specs.Book.{Book, opened, noted, lastBook, hashInput}
 use Rattle.exchange.specs.Demand.{lastExchange}
 use Rattle.exchange.specs.declared.Step.{Step}
 use Rattle.exchange.specs.declared.Exchange.{Exchange}
 use Rattle.exchange.proofs.StepLaws.{step-accepted, output-accepted}
 use Rattle.exchange.proofs.Simulation.{Sim}
-use Rattle.exchange.proofs.HandedLaws.{secret-handed, sign-handed, verdict-handed}
+use Rattle.exchange.proofs.HandedLaws.{secret-handed, secret-hashed, book-method, sign-handed, verdict-handed}
 use Rattle.arguments.specs.Arguments.{isYes, classicalOf, kemOf}
 use Rattle.stored.specs.Stored.{encoded, decoded}
 use Rattle.lent.specs.Lent.{tells, lentCall}
@@ -82,16 +84,20 @@ secret-hands-out b₀ room₀ calls numbers κs a r s d t z =
     let cl = classicalOf (a .1 .1 .0) (a .1 .1 .1 .0) in
     let x = now (a .1 .1 .1 .1 .0) in
     let kem = kemOf (b₀ .method) (a .1 .1 .1 .1 .1 .0) in
-    let dg = now (a .1 .1 .1 .1 .1 .1 .0) in
+    let kPq = now (a .1 .1 .1 .1 .1 .1 .0) in
     let ks = now (a .1 .1 .1 .1 .1 .1 .1 .0) in
     let v = now (a .1 .1 .1 .1 .1 .1 .1 .1 .0) in
-    let q = secret cl x kem dg ks v in
-    let w = ap (λ (m : ℕ). lentCall (now (a .0)) room (secret cl x (kemOf m (a .1 .1 .1 .1 .1 .0)) dg ks v) []) (f .method-is) in
+    let q = secret cl x kem kPq ks v in
+    let w = ap (λ (m : ℕ). lentCall (now (a .0)) room (secret cl x (kemOf m (a .1 .1 .1 .1 .1 .0)) kPq ks v) []) (f .method-is) in
     let l = as-step (now (a .0)) e room q _ r _ _ _ _ (f .stored) (f .storable) (t ∙ w) in
     let n = sym (l .number-is) ∙ z in
     let c = ap first (l .told-is) ∙ count-none e room q n in
-    let h = secret-handed room₀ b e room (f .least) (f .sim) cl x kem dg ks v n in
-    (c ∙ h .0, (λ i. take (c i) (l .room-is i)) ∙ h .1)
+    let h = secret-handed room₀ b e room (f .least) (f .sim) cl x kem kPq ks v n in
+    let k = ap (λ (y : List ℕ). drop 1 y) (l .told-is) ∙ secret-hashed room₀ b e room (f .least) (f .sim) cl x kem kPq ks v n in (
+      c ∙ h .0,
+      (λ i. take (c i) (l .room-is i)) ∙ h .1,
+      k ∙ ap (λ (m : ℕ). sized hSize (sha2 (rowOf m .«digest_len») (hashInput (noted (length room₀) b q .fields)))) (book-method (length room₀) b₀ calls),
+    )
 
 sign-hands-out : SignHandsOut
 unfolding tells countOf secondOf

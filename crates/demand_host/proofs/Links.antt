@@ -54,7 +54,7 @@ unfolding taken
 taken-method x (ownC c out) = refl
 taken-method x (init p) = refl
 taken-method x (reply p) = refl
-taken-method x (secret cl v kem d ks s) = refl
+taken-method x (secret cl v kem kPq ks s) = refl
 taken-method x (sign g out kOut) = refl
 taken-method x (verdict a b kOut) = refl
 

@@ -7,11 +7,11 @@ use mathlib.Core.Bool.{Bool, true, false, cond}
 use lib.ListN.{length, length-replicate}
 use base.Fml.{Lft, GName}
 use denote.Ref.{RefT, now}
-use Rattle.limits.specs.Limits.{exchangeSize, roomLeast}
+use Rattle.limits.specs.Limits.{hSize, exchangeSize, roomLeast}
 use Rattle.buffers.specs.Bytes.{zeros}
 use Rattle.messages.specs.Messages.{initBytes}
 use Rattle.exchange.specs.Causes.{methodOk, roleOk, startCause}
-use Rattle.exchange.specs.Steps.{Call, ownC, init, reply, secret, sign, verdict, number, replyOf, answered, exchangeAfter, roomAfter, outputAfter, started, startedRoom}
+use Rattle.exchange.specs.Steps.{Call, ownC, init, reply, secret, sign, verdict, number, replyOf, answered, handedH, exchangeAfter, roomAfter, outputAfter, started, startedRoom}
 use Rattle.exchange.specs.Book.{opened, isComplete}
 use Rattle.exchange.specs.Demand.{numbersOf, lastExchange, lastRoom}
 use Rattle.exchange.specs.declared.Classical.{Classical}
@@ -113,16 +113,16 @@ module _ (l : Lft) (g : GName) where
         (lent (encoded (exchangeAfter x room q)), (lent (roomAfter x room q), (lent p, (lent (tells x room q), tt))))
         (as-called x room q [] h) k
 
-    secret-then : x .method ≡ m → (gv n : ℕ) (v : List ℕ) (km : ℕ) (d ks s : List ℕ) → let q = secret (classicalOf gv n) v (kemOf m km) d ks s in
+    secret-then : x .method ≡ m → (gv n : ℕ) (v : List ℕ) (km : ℕ) (kPq ks s : List ℕ) → let q = secret (classicalOf gv n) v (kemOf m km) kPq ks s in
         Reaches m (exchangeAfter x room q) (roomAfter x room q) qs → Reaches m x room (q ∷ qs)
     unfolding lent one tells
-    secret-then j gv n v km d ks s k =
-        let told : ℕ → Call = λ (i : ℕ). secret (classicalOf gv n) v (kemOf i km) d ks s in
+    secret-then j gv n v km kPq ks s k =
+        let told : ℕ → Call = λ (i : ℕ). secret (classicalOf gv n) v (kemOf i km) kPq ks s in
         let q = told m in
         let w = ap (λ (i : ℕ). lentCall (encoded x) room (told i) []) (sym (method-there (encoded x) x m refl h j)) in
-        take-secret (l, (l, (l, (l, (l, (l, (l, tt)))))))
-        (lent (encoded x), (lent room, (gv, (n, (lent v, (km, (lent d, (lent ks, (lent s, (one 0, tt)))))))))) (number x room q)
-        (lent (encoded (exchangeAfter x room q)), (lent (roomAfter x room q), (gv, (n, (lent v, (km, (lent d, (lent ks, (lent s, (one (answered x room q .count), tt))))))))))
+        take-secret (l, (l, (l, (l, (l, (l, (l, (l, tt))))))))
+        (lent (encoded x), (lent room, (gv, (n, (lent v, (km, (lent kPq, (lent ks, (lent s, (one 0, (lent (zeros hSize), tt))))))))))) (number x room q)
+        (lent (encoded (exchangeAfter x room q)), (lent (roomAfter x room q), (gv, (n, (lent v, (km, (lent kPq, (lent ks, (lent s, (one (answered x room q .count), (lent (handedH x room q), tt)))))))))))
         (as-called x room q [] h ∙ w) k
 
     sign-then : (sg out kOut : List ℕ) → let q = sign sg (length out) (length kOut) in Reaches m (exchangeAfter x room q) (roomAfter x room q) qs → Reaches m x room (q ∷ qs)
@@ -153,10 +153,10 @@ module _ (l : Lft) (g : GName) where
       subst (λ (n : ℕ). Reaches m x room (ownC c n ∷ qs)) (length-zeros out) (own-c-then m x h room qs c (zeros out) (reached m _ (step-storable x room _ h) (method-kept x room _ ∙ j) _ qs))
   reached m x h j room (init p ∷ qs) = init-then m x h room qs p (reached m _ (step-storable x room _ h) (method-kept x room _ ∙ j) _ qs)
   reached m x h j room (reply p ∷ qs) = reply-then m x h room qs p (reached m _ (step-storable x room _ h) (method-kept x room _ ∙ j) _ qs)
-  reached m x h j room (secret cl v kem d ks s ∷ qs) =
-      subst (λ (c : Classical). Reaches m x room (secret c v kem d ks s ∷ qs)) (classical-back cl)
-      (subst (λ (k : Kem). Reaches m x room (secret (classicalOf (given cl) (stated cl)) v k d ks s ∷ qs)) (kem-back m kem)
-      (secret-then m x h room qs j (given cl) (stated cl) v (kemNumber kem) d ks s (reached m _ (step-storable x room _ h) (method-kept x room _ ∙ j) _ qs)))
+  reached m x h j room (secret cl v kem kPq ks s ∷ qs) =
+      subst (λ (c : Classical). Reaches m x room (secret c v kem kPq ks s ∷ qs)) (classical-back cl)
+      (subst (λ (k : Kem). Reaches m x room (secret (classicalOf (given cl) (stated cl)) v k kPq ks s ∷ qs)) (kem-back m kem)
+      (secret-then m x h room qs j (given cl) (stated cl) v (kemNumber kem) kPq ks s (reached m _ (step-storable x room _ h) (method-kept x room _ ∙ j) _ qs)))
   reached m x h j room (sign sg out kOut ∷ qs) =
       subst (λ (n : ℕ). Reaches m x room (sign sg n kOut ∷ qs)) (length-zeros out)
       (subst (λ (n : ℕ). Reaches m x room (sign sg (length (zeros out)) n ∷ qs)) (length-zeros kOut)

@@ -1,5 +1,5 @@
--- What a further call of an export hands out after an accepted start and any history, by the book of the same calls: the hash input, REPLY,
--- and K. The call is told by `Reads.Learnt` of its own export, as in the history. Assumes nothing.
+-- What a further call of an export hands out after an accepted start and any history, by the book of the same calls: the hash input, H,
+-- REPLY, and K. The call is told by `Reads.Learnt` of its own export, as in the history. Assumes nothing.
 use Prim.Native.Nat.{ℕ}
 use mathlib.Core.Path.{_≡_}
 use mathlib.Core.List.{List, [], _∷_}
@@ -8,7 +8,10 @@ use contract.Lifetimes.{Lfts}
 use denote.Ref.{now}
 use denote.Triple.Clauses.{AtExit}
 use borrow.Fn.World.{ArgsD}
+use Rattle.limits.specs.Limits.{hSize}
 use Rattle.buffers.specs.Bytes.{onto}
+use Rattle.sha_words.specs.Message.{sha2, sized}
+use Rattle.methods.specs.Rows.{rowOf}
 use Rattle.messages.specs.Messages.{replyBytes, fieldOf}
 use Rattle.exchange.specs.Causes.{replyCause}
 use Rattle.exchange.specs.Steps.{Call, secret, kRecord}
@@ -22,15 +25,17 @@ use Rattle.boundary.proofs.castulfrisa_verdict as verdict-fn
 use Rattle.boundary.proofs.castulfrisa_verdict.Reads as verdict-reads
 use Rattle.demand_host.specs.Told.{Told}
 
--- an accepted secret step counts the hash input, and the room begins with it
+-- an accepted secret step counts the hash input, the room begins with it, and the H that was handed out is its hash, by the method that was
+-- started: what is signed or verified is a function of the book alone
 abbrev pub SecretHandsOut : Type 0
 SecretHandsOut =
     (b₀ : Book) (room₀ : List ℕ) (calls : List Call) (numbers : List ℕ)
-    (κs : Lfts 7) (a : ArgsD take-secret-fn.signature κs) (r : ℕ) (s : AtExit take-secret-fn.ended κs)
+    (κs : Lfts 8) (a : ArgsD take-secret-fn.signature κs) (r : ℕ) (s : AtExit take-secret-fn.ended κs)
     → Told b₀ room₀ calls numbers (now (a .0)) (now (a .1 .0)) → take-secret-reads.Learnt κs a r s → r ≡ 0
     → let q = secret (classicalOf (a .1 .1 .0) (a .1 .1 .1 .0)) (now (a .1 .1 .1 .1 .0)) (kemOf (b₀ .method) (a .1 .1 .1 .1 .1 .0)) (now (a .1 .1 .1 .1 .1 .1 .0)) (now (a .1 .1 .1 .1 .1 .1 .1 .0)) (now (a .1 .1 .1 .1 .1 .1 .1 .1 .0)) in
     let h = hashInput (noted (length room₀) (lastBook (length room₀) b₀ calls) q .fields) in
     (now (s .1 .1 .1 .1 .1 .1 .1 .1 .1 .0) ≡ length h) × (take (now (s .1 .1 .1 .1 .1 .1 .1 .1 .1 .0)) (now (s .1 .0)) ≡ h)
+    × (now (s .1 .1 .1 .1 .1 .1 .1 .1 .1 .1 .0) ≡ sized hSize (sha2 (rowOf (b₀ .method) .«digest_len») h))
 
 -- an accepted signature writes REPLY of the book's K_S and S, which is read with 0 and gives the same fields back, and K's record; the
 -- counts are their lengths

@@ -36,7 +36,7 @@ pub data History (m : ℕ) : List ℕ → List ℕ → List Call → List ℕ �
   read-reply : {qs : List Call} {ns ex′ room′ : List ℕ} (κs : Lfts 4) (a : ArgsD read-reply-fn.signature κs) (r : ℕ) (s : AtExit read-reply-fn.ended κs) →
       read-reply-reads.Learnt κs a r s → History m (now (s .0)) (now (s .1 .0)) qs ns ex′ room′ →
       History m (now (a .0)) (now (a .1 .0)) (reply (now (a .1 .1 .0)) ∷ qs) (r ∷ ns) ex′ room′
-  take-secret : {qs : List Call} {ns ex′ room′ : List ℕ} (κs : Lfts 7) (a : ArgsD take-secret-fn.signature κs) (r : ℕ) (s : AtExit take-secret-fn.ended κs) →
+  take-secret : {qs : List Call} {ns ex′ room′ : List ℕ} (κs : Lfts 8) (a : ArgsD take-secret-fn.signature κs) (r : ℕ) (s : AtExit take-secret-fn.ended κs) →
       take-secret-reads.Learnt κs a r s → History m (now (s .0)) (now (s .1 .0)) qs ns ex′ room′ →
       History m (now (a .0)) (now (a .1 .0)) (secret (classicalOf (a .1 .1 .0) (a .1 .1 .1 .0)) (now (a .1 .1 .1 .1 .0)) (kemOf m (a .1 .1 .1 .1 .1 .0)) (now (a .1 .1 .1 .1 .1 .1 .0)) (now (a .1 .1 .1 .1 .1 .1 .1 .0)) (now (a .1 .1 .1 .1 .1 .1 .1 .1 .0)) ∷ qs) (r ∷ ns) ex′ room′
   give-sign : {qs : List Call} {ns ex′ room′ : List ℕ} (κs : Lfts 6) (a : ArgsD sign-fn.signature κs) (r : ℕ) (s : AtExit sign-fn.ended κs) →

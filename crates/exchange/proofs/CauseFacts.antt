@@ -1,13 +1,13 @@
 -- What an accepted call tells of the fields that it brings. Assumes nothing.
 use Prim.Native.Nat.{ℕ, _+_, _-_, _≤_}
 use mathlib.Core.Path.{_≡_, refl, sym, ap, _∙_}
-use mathlib.Core.List.{List, _∷_}
-use mathlib.Core.Bool.{Bool, true, false, cond, not, _&&_, false≢true}
+use mathlib.Core.List.{List, _∷_, _++_}
+use mathlib.Core.Bool.{Bool, true, false, cond, _&&_, false≢true}
 use native.Mathlib.Omega.{arith}
 use lib.ListN.{length, getD, drop}
 use lib.Dec.{leb, ltb, eqb}
 use borrow.Author.Tests.{eqb-true, le-leb, eq-eqb, ltb-false}
-use Rattle.limits.specs.Limits.{versionMost, kexinitMost, stringMost, kSize, roomLeast, methodLast, server}
+use Rattle.limits.specs.Limits.{versionMost, kexinitMost, stringMost, kPqSize, kSize, roomLeast, methodLast, server}
 use Rattle.limits.specs.Range.{within}
 use Rattle.limits.proofs.BoolLaws.{and-true, both}
 use Rattle.limits.proofs.RangeLaws.{within-least, within-most}
@@ -16,9 +16,11 @@ use Rattle.wire.specs.Strings.{number32, string}
 use Rattle.wire.proofs.CauseLaws.{if-none, unless-none, orElse-none}
 use Rattle.wire.proofs.StringLaws.{length-string}
 use Rattle.wire.proofs.RoundTrip.{number32-string}
+use Rattle.sha_words.specs.Message.{sha2}
+use Rattle.sha_words.proofs.DigestLaws.{length-sha2}
 use Rattle.mpint.specs.Mpint.{shortest}
 use Rattle.mpint.proofs.MpintLaws.{length-shortest}
-use Rattle.methods.specs.Rows.{hybrid, rowOf, mostBy, kMost}
+use Rattle.methods.specs.Rows.{rowOf, mostBy, kMost}
 use Rattle.methods.specs.Form.{lengthFits, leadFits, formed}
 use Rattle.methods.specs.declared.KForm.{KForm}
 use Rattle.methods.specs.declared.KForm.the-variants.{Mpint, Digest}
@@ -30,7 +32,7 @@ use Rattle.messages.specs.Payload.{messageCause}
 use Rattle.messages.specs.Messages.{initLayout, replyLayout, fieldOf}
 use Rattle.secret.specs.Secret.{kBytes}
 use Rattle.secret.proofs.SecretLaws.{k-some}
-use Rattle.exchange.specs.Causes.{versionOk, plain, kexinitOk, blobOk, methodOk, roleOk, startCause, ownCCause, initCause, replyCause, xOk, present, kemOk, digestFor, digestOk, ownOk, restOk, allZero, xBad, kemBad, secretCause, kOf}
+use Rattle.exchange.specs.Causes.{versionOk, plain, kexinitOk, blobOk, methodOk, roleOk, startCause, ownCCause, initCause, replyCause, xOk, kemOk, kPqFor, kPqOk, ownOk, restOk, allZero, xBad, kemBad, secretCause, kOf}
 use Rattle.exchange.specs.Record.{kLength, kBodyFits}
 use Rattle.exchange.specs.Steps.{kRecord}
 use Rattle.exchange.specs.declared.Classical.{Classical}
@@ -128,16 +130,16 @@ reply-formed m p z =
 
 -- ---- the secret
 
--- the judgements of an accepted secret step: X, KEM, digest, and a server's own; and neither primitive is to blame
-pub secret-known : (role m : ℕ) (cl : Classical) (x : List ℕ) (kem : Kem) (d ks s : List ℕ) → secretCause role m cl x kem d ks s ≡ 0
-    → (xOk (rowOf m) cl x ≡ true) × (kemOk (rowOf m) kem ≡ true) × (digestOk (rowOf m) cl kem d ≡ true) × (ownOk role (rowOf m) ks s ≡ true)
+-- the judgements of an accepted secret step: X, KEM, K_PQ, and a server's own; and neither primitive is to blame
+pub secret-known : (role m : ℕ) (cl : Classical) (x : List ℕ) (kem : Kem) (kPq ks s : List ℕ) → secretCause role m cl x kem kPq ks s ≡ 0
+    → (xOk (rowOf m) cl x ≡ true) × (kemOk (rowOf m) kem ≡ true) × (kPqOk kem kPq ≡ true) × (ownOk role (rowOf m) ks s ≡ true)
     × (xBad (rowOf m) cl x ≡ false) × (kemBad kem ≡ false)
 unfolding secretCause restOk
-secret-known role m cl x kem d ks s z =
-    let a = unless-none (xOk (rowOf m) cl x && restOk role (rowOf m) cl kem d ks s) 4 _ (omega arith) z in
-    let b = and-true (xOk (rowOf m) cl x) (restOk role (rowOf m) cl kem d ks s) (a .0) in
-    let b2 = and-true (kemOk (rowOf m) kem && digestOk (rowOf m) cl kem d) (ownOk role (rowOf m) ks s) (b .1) in
-    let b1 = and-true (kemOk (rowOf m) kem) (digestOk (rowOf m) cl kem d) (b2 .0) in
+secret-known role m cl x kem kPq ks s z =
+    let a = unless-none (xOk (rowOf m) cl x && restOk role (rowOf m) kem kPq ks s) 4 _ (omega arith) z in
+    let b = and-true (xOk (rowOf m) cl x) (restOk role (rowOf m) kem kPq ks s) (a .0) in
+    let b2 = and-true (kemOk (rowOf m) kem && kPqOk kem kPq) (ownOk role (rowOf m) ks s) (b .1) in
+    let b1 = and-true (kemOk (rowOf m) kem) (kPqOk kem kPq) (b2 .0) in
     let c = if-none (xBad (rowOf m) cl x) 16 _ (omega arith) (a .1) in
     (b .0, b1 .0, b1 .1, b2 .1, c .0, if-none (kemBad kem) 17 0 (omega arith) (c .1) .0)
 
@@ -178,21 +180,33 @@ module _ (r : Method) (row : Sound r) (x d : List ℕ) where
       let t = length-string d in
       (ap (kBodyFits Digest r) n ∙ eq-eqb (length d) (r .«digest_len») l, omega arith, omega arith)
 
-  -- by the form, and in a hybrid by the KEM, which must be done
-  by-form : (f : KForm) (n : ℕ) (kem : Kem) → length x ≡ r .«x_len» → r .«zero_check» && allZero x ≡ false
-      → cond (hybrid f) (present kem) (not (present kem)) ≡ true → eqb (length d) (digestFor (Given n) kem (r .«digest_len»)) ≡ true → kemBad kem ≡ false
+  by-form : (f : KForm) → length x ≡ r .«x_len» → r .«zero_check» && allZero x ≡ false → length d ≡ r .«digest_len»
       → (kBodyFits f r (number32 (kRecord (kBytes f x d))) ≡ true) × (length (kBytes f x d) ≤ 4 + mostBy f (r .«x_len») (r .«digest_len»))
       × (kLength (kRecord (kBytes f x d)) ≡ length (kBytes f x d))
-  by-form Mpint n kem l z p q b = mpint-fits l z
-  by-form Digest n Absent l z p q b = absurd (false≢true p)
-  by-form Digest n NoKem l z p q b = absurd (false≢true (sym b))
-  by-form Digest n Done l z p q b = digest-fits (eqb-true (length d) (r .«digest_len») q)
+  by-form Mpint l z k = mpint-fits l z
+  by-form Digest l z k = digest-fits k
+
+-- X and K_PQ of an accepted secret step are short
+pub secret-short : (role m : ℕ) (cl : Classical) (x : List ℕ) (kem : Kem) (kPq ks s : List ℕ) → methodOk m ≡ true → secretCause role m cl x kem kPq ks s ≡ 0
+    → (length x ≤ 66) × (length kPq ≤ kPqSize)
+secret-short role m NoX x kem kPq ks s mo z = absurd (false≢true (sym (secret-known role m NoX x kem kPq ks s z .4)))
+secret-short role m (Given n) x kem kPq ks s mo z =
+    let a = secret-known role m (Given n) x kem kPq ks s z in
+    let l = eqb-true (length x) (rowOf m .«x_len») (and-true (eqb n (rowOf m .«x_len»)) (eqb (length x) (rowOf m .«x_len»)) (a .0) .1) in
+    let q = eqb-true (length kPq) (kPqFor kem) (a .2) in
+    (omega (arith, method-row m mo .x-most), omega (arith, most kem))
+  where
+    most : (kem : Kem) → kPqFor kem ≤ kPqSize
+    most Absent = omega arith
+    most NoKem = omega arith
+    most Done = omega arith
 
 -- K of an accepted secret step fits its method
-pub key-sized : (role m : ℕ) (cl : Classical) (x : List ℕ) (kem : Kem) (d ks s : List ℕ) → methodOk m ≡ true → secretCause role m cl x kem d ks s ≡ 0 → Key m (kOf m x d)
-key-sized role m NoX x kem d ks s mo z = absurd (false≢true (sym (secret-known role m NoX x kem d ks s z .4)))
-key-sized role m (Given n) x kem d ks s mo z =
-    let a = secret-known role m (Given n) x kem d ks s z in
+pub key-sized : (role m : ℕ) (cl : Classical) (x : List ℕ) (kem : Kem) (kPq ks s : List ℕ) → methodOk m ≡ true → secretCause role m cl x kem kPq ks s ≡ 0 → Key m (kOf m x kPq)
+key-sized role m NoX x kem kPq ks s mo z = absurd (false≢true (sym (secret-known role m NoX x kem kPq ks s z .4)))
+key-sized role m (Given n) x kem kPq ks s mo z =
+    let a = secret-known role m (Given n) x kem kPq ks s z in
     let lx = and-true (eqb n (rowOf m .«x_len»)) (eqb (length x) (rowOf m .«x_len»)) (a .0) .1 in
-    let k = by-form (rowOf m) (method-row m mo) x d (rowOf m .«k_form») n kem (eqb-true (length x) (rowOf m .«x_len») lx) (a .4) (a .1) (a .2) (a .5) in
+    let d : List ℕ = sha2 (rowOf m .«digest_len») (kPq ++ x) in
+    let k = by-form (rowOf m) (method-row m mo) x d (rowOf m .«k_form») (eqb-true (length x) (rowOf m .«x_len») lx) (a .4) (length-sha2 _ (kPq ++ x) (method-row m mo .digest-kind)) in
     record { ok = k .0; most = k .1; len = k .2 }

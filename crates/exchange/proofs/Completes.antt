@@ -21,13 +21,13 @@ use Rattle.methods.specs.declared.Shape.{Shape}
 use Rattle.methods.specs.Sound.{Sound}
 use Rattle.methods.proofs.FormLaws.{formed-complete}
 use Rattle.messages.specs.Messages.{initBytes, replyBytes}
-use Rattle.exchange.specs.Causes.{methodOk, roleOk, versionOk, kexinitOk, startCause, ownCCause, initCause, replyCause, xOk, present, digestFor, ownOk, restOk, allZero, kemBad, secretCause, signCause, verdictCause}
+use Rattle.exchange.specs.Causes.{methodOk, roleOk, versionOk, kexinitOk, startCause, ownCCause, initCause, replyCause, xOk, present, kPqFor, ownOk, restOk, allZero, kemBad, secretCause, signCause, verdictCause}
 use Rattle.exchange.specs.Steps.{Call, ownC, init, reply, sign, verdict, stepNo, fedCause, started, startedRoom}
 use Rattle.exchange.specs.Book.{Book, opened, stepsOf, firstCause, moved, noted, hasAll, isComplete, lastBook}
 use Rattle.exchange.specs.Demand.{lastExchange}
 use Rattle.exchange.proofs.KindLaws.{kind-accepted}
 use Rattle.exchange.proofs.ReadBack.{init-back, reply-back}
-use Rattle.exchange.proofs.Sample.{version, payload, blob, publicValue, kemFor, digestIn, secretCall, clientCalls, serverCalls, sampleCalls}
+use Rattle.exchange.proofs.Sample.{version, payload, blob, publicValue, kemFor, kPqIn, secretCall, clientCalls, serverCalls, sampleCalls}
 use Rattle.exchange.specs.declared.Classical.the-variants.{Given}
 use Rattle.exchange.proofs.CauseFacts.{method-row}
 use Rattle.exchange.proofs.Simulation.{held, role-is}
@@ -64,14 +64,14 @@ module _ (m : ℕ) (ok : methodOk m ≡ true) where
   reply-fed : replyCause m (replyBytes blob (publicValue (rowOf m .s)) blob) ≡ 0
   reply-fed = reply-back m ok blob (publicValue (rowOf m .s)) blob refl (value-formed (rowOf m .s) (row .s-classical)) refl .0
 
-  -- the KEM and the digest, by the form
+  -- the KEM and K_PQ, by the form
   kem-fed : (f : KForm) → cond (hybrid f) (present (kemFor f)) (not (present (kemFor f))) ≡ true
   kem-fed Mpint = refl
   kem-fed Digest = refl
 
-  digest-fed : (f : KForm) (n d : ℕ) → eqb (length (digestIn f d)) (digestFor (Given n) (kemFor f) d) ≡ true
-  digest-fed Mpint n d = refl
-  digest-fed Digest n d = eq-eqb (length (zeros d)) d (length-replicate d 0)
+  kPq-fed : (f : KForm) → eqb (length (kPqIn f)) (kPqFor (kemFor f)) ≡ true
+  kPq-fed Mpint = refl
+  kPq-fed Digest = refl
 
   kem-right : (f : KForm) → kemBad (kemFor f) ≡ false
   kem-right Mpint = refl
@@ -84,7 +84,7 @@ module _ (m : ℕ) (ok : methodOk m ≡ true) where
       both (eq-eqb (rowOf m .«x_len») (rowOf m .«x_len») refl) (eq-eqb (length {A = ℕ} (replicate (rowOf m .«x_len») 1)) (rowOf m .«x_len») (length-replicate {A = ℕ} (rowOf m .«x_len») 1)) in
       let z : rowOf m .«zero_check» && allZero (replicate (rowOf m .«x_len») 1) ≡ false =
       ap (λ (t : Bool). rowOf m .«zero_check» && t) (ones-some (rowOf m .«x_len») (row .x-least)) ∙ and-false (rowOf m .«zero_check») in
-      unless-holds _ 4 _ (both x (both (both (kem-fed (rowOf m .«k_form»)) (digest-fed (rowOf m .«k_form») (rowOf m .«x_len») (rowOf m .«digest_len»))) o))
+      unless-holds _ 4 _ (both x (both (both (kem-fed (rowOf m .«k_form»)) (kPq-fed (rowOf m .«k_form»))) o))
       ∙ if-fails _ 16 _ z
       ∙ if-fails _ 17 0 (kem-right (rowOf m .«k_form»))
 

@@ -1,23 +1,26 @@
 -- What an accepted call hands out is what the book says: hash input and its length, REPLY, and K. Assumes nothing.
 use Prim.Native.Nat.{ℕ, _+_, _≤_}
 use mathlib.Core.Path.{_≡_, refl, sym, ap, _∙_}
-use mathlib.Core.List.{List}
+use mathlib.Core.List.{List, [], _∷_}
 use mathlib.Core.Bool.{Bool, true, false, cond}
 use native.Mathlib.Omega.{arith}
 use lib.ListN.{length, getD, take, drop}
 use lib.Seq.{take-at}
 use lib.Dec.{eqb}
 use borrow.Author.Tests.{eqb-true}
-use Rattle.limits.specs.Limits.{blobMost, roomLeast, server}
+use Rattle.limits.specs.Limits.{blobMost, hSize, roomLeast, server}
 use Rattle.limits.proofs.RangeLaws.{within-least}
 use Rattle.buffers.specs.Bytes.{onto}
 use Rattle.wire.proofs.CauseLaws.{unless-none}
+use Rattle.sha_words.specs.Message.{sha2, sized}
+use Rattle.methods.specs.Rows.{rowOf}
 use Rattle.methods.proofs.FormLaws.{s-least}
 use Rattle.messages.specs.Messages.{replyBytes, fieldOf}
 use Rattle.exchange.specs.Causes.{blobOk, replyCause, signCause, kOf}
+use Rattle.exchange.specs.Numbers.{Kind, accepted, refused, fault, kind, byKind}
 use Rattle.exchange.specs.Record.{kLength}
-use Rattle.exchange.specs.Steps.{Call, secret, sign, verdict, stepNo, fedCause, number, fieldsEnd, filled, taken, kRecord, replyOf, countOf, roomAfter}
-use Rattle.exchange.specs.Book.{Fields, Book, brings, stepsOf, firstCause, fieldsAfter, moved, noted, hashInput}
+use Rattle.exchange.specs.Steps.{Call, secret, sign, verdict, stepNo, fedCause, number, fieldsEnd, filled, taken, kRecord, replyOf, countOf, handedH, roomAfter}
+use Rattle.exchange.specs.Book.{Fields, Book, brings, stepsOf, firstCause, fieldsAfter, moved, dropped, noted, hashInput, lastBook}
 use Rattle.exchange.specs.ExchangeTold.{exchangeOf}
 use Rattle.exchange.specs.declared.Classical.{Classical}
 use Rattle.exchange.specs.declared.Kem.{Kem}
@@ -25,7 +28,7 @@ use Rattle.exchange.specs.declared.Exchange.{Exchange}
 use Rattle.exchange.proofs.KindLaws.{kind-accepted}
 use Rattle.exchange.proofs.CauseFacts.{Base, FormedS, Blob, Key, method-least, method-most}
 use Rattle.exchange.proofs.HashLaws.{hash-length, ks-stands, s-stands}
-use Rattle.exchange.proofs.StepLaws.{step-accepted}
+use Rattle.exchange.proofs.StepLaws.{step-accepted, handed-accepted}
 use Rattle.exchange.proofs.ReadBack.{reply-back}
 use Rattle.exchange.proofs.Simulation.{Reachable, client0, client1, client2, client3, client4, server0, server1, server2, server3, accepts, Sim, live, dead, number-live, no-cause, dead-number}
 
@@ -51,35 +54,61 @@ noted-moved l b q z = rw (kind-accepted (firstCause l b q) z)
 
 -- ---- the secret step: the hash input is whole, and its length is the count
 
-secret-k : (role m : ℕ) (f : Fields) (cl : Classical) (x : List ℕ) (kem : Kem) (d ks s : List ℕ) → fieldsAfter role m f (secret cl x kem d ks s) .k ≡ kOf m x d
+secret-k : (role m : ℕ) (f : Fields) (cl : Classical) (x : List ℕ) (kem : Kem) (kPq ks s : List ℕ) → fieldsAfter role m f (secret cl x kem kPq ks s) .k ≡ kOf m x kPq
 unfolding fieldsAfter
-secret-k role m f cl x kem d ks s = by-test (eqb role server)
+secret-k role m f cl x kem kPq ks s = by-test (eqb role server)
   where
-    by-test : (t : Bool) → cond t (brings f ks (f .c) s (kOf m x d)) (brings f (f .ks) (f .c) (f .s) (kOf m x d)) .k ≡ kOf m x d
+    by-test : (t : Bool) → cond t (brings f ks (f .c) s (kOf m x kPq)) (brings f (f .ks) (f .c) (f .s) (kOf m x kPq)) .k ≡ kOf m x kPq
     by-test true = refl
     by-test false = refl
 
 module _ (room : List ℕ) (b : Book) (e : Exchange) (room′ : List ℕ) (h : roomLeast ≤ length room) (sim : Sim room b e room′) where
-  pub secret-handed : (cl : Classical) (x : List ℕ) (kem : Kem) (d ks s : List ℕ) → number e room′ (secret cl x kem d ks s) ≡ 0
-      → (countOf e room′ (secret cl x kem d ks s) ≡ length (hashInput (noted (length room) b (secret cl x kem d ks s) .fields)))
-      × (take (countOf e room′ (secret cl x kem d ks s)) (roomAfter e room′ (secret cl x kem d ks s)) ≡ hashInput (noted (length room) b (secret cl x kem d ks s) .fields))
+  pub secret-handed : (cl : Classical) (x : List ℕ) (kem : Kem) (kPq ks s : List ℕ) → number e room′ (secret cl x kem kPq ks s) ≡ 0
+      → (countOf e room′ (secret cl x kem kPq ks s) ≡ length (hashInput (noted (length room) b (secret cl x kem kPq ks s) .fields)))
+      × (take (countOf e room′ (secret cl x kem kPq ks s)) (roomAfter e room′ (secret cl x kem kPq ks s)) ≡ hashInput (noted (length room) b (secret cl x kem kPq ks s) .fields))
   unfolding countOf onto
-  secret-handed cl x kem d ks s z =
-      let q : Call = secret cl x kem d ks s in
+  secret-handed cl x kem kPq ks s z =
+      let q : Call = secret cl x kem kPq ks s in
       let l = live-of room b e room′ q h sim z in
       let u = no-cause (length room) b q (l .cause) in
       let w = accepts room (l .sound) q (u .0) (u .1) in
       let f : Fields = fieldsAfter (b .role) (b .method) (b .fields) q in
       let m : noted (length room) b q .fields ≡ f = ap (λ (y : Book). y .fields) (noted-moved (length room) b q (l .cause)) in
       let n : countOf e room′ q ≡ length (hashInput f) =
-      (λ i. fieldsEnd (taken (l .exchange i) q .lens) + length (kOf (l .exchange i .method) x d))
-      ∙ (λ i. fieldsEnd (w .exchange i .lens) + length (sym (secret-k (b .role) (b .method) (b .fields) cl x kem d ks s) i))
+      (λ i. fieldsEnd (taken (l .exchange i) q .lens) + length (kOf (l .exchange i .method) x kPq))
+      ∙ (λ i. fieldsEnd (w .exchange i .lens) + length (sym (secret-k (b .role) (b .method) (b .fields) cl x kem kPq ks s) i))
       ∙ sym (hash-length (f .vc) (f .vs) (f .ic) (f .is) (f .ks) (f .c) (f .s) (f .k)) in
       let r : roomAfter e room′ q ≡ onto room (hashInput f) =
       sym (step-accepted e room′ q z .1) ∙ (λ i. filled (l .exchange i) (l .room-is i) q) ∙ w .room-is in (
         n ∙ ap (λ (y : Fields). length (hashInput y)) (sym m),
         (λ i. take (n i) (r i)) ∙ take-at (hashInput f) (drop (length (hashInput f)) room) _ refl ∙ ap hashInput (sym m),
       )
+
+  -- and H is the hash of the hash input, by the book's method
+  pub secret-hashed : (cl : Classical) (x : List ℕ) (kem : Kem) (kPq ks s : List ℕ) → number e room′ (secret cl x kem kPq ks s) ≡ 0
+      → handedH e room′ (secret cl x kem kPq ks s)
+      ≡ sized hSize (sha2 (rowOf (b .method) .«digest_len») (hashInput (noted (length room) b (secret cl x kem kPq ks s) .fields)))
+  secret-hashed cl x kem kPq ks s z =
+      let q : Call = secret cl x kem kPq ks s in
+      let l = live-of room b e room′ q h sim z in
+      let r = step-accepted e room′ q z .1 in
+      sym (handed-accepted e room′ q z)
+      ∙ (λ i. sized hSize (sha2 (rowOf (l .exchange i .method) .«digest_len») (take (countOf e room′ q) (r i))))
+      ∙ ap (λ (m : List ℕ). sized hSize (sha2 (rowOf (b .method) .«digest_len») m)) (secret-handed cl x kem kPq ks s z .1)
+
+-- the book keeps its method
+noted-method : (l : ℕ) (b : Book) (q : Call) → noted l b q .method ≡ b .method
+unfolding noted
+noted-method l b q = by-kind (kind (firstCause l b q))
+  where
+    by-kind : (k : Kind) → byKind k (moved b q) b (dropped b) .method ≡ b .method
+    by-kind accepted = refl
+    by-kind refused = refl
+    by-kind fault = refl
+
+pub book-method : (l : ℕ) (b : Book) (qs : List Call) → lastBook l b qs .method ≡ b .method
+book-method l b [] = refl
+book-method l b (q ∷ qs) = book-method l (noted l b q) qs ∙ noted-method l b q
 
 -- ---- signature and verdict: the book has every field, K too
 

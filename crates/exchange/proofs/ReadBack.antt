@@ -11,6 +11,7 @@ use Rattle.limits.specs.Limits.{blobMost, initLeast, kSize, methodLast}
 use Rattle.limits.proofs.BoolLaws.{and-true}
 use Rattle.limits.proofs.RangeLaws.{within-most}
 use Rattle.buffers.specs.Bytes.{Bytes, zeros, onto}
+use Rattle.sha_words.specs.Message.{sha2}
 use Rattle.wire.proofs.CauseLaws.{if-fails, unless-holds, orElse-second}
 use Rattle.methods.specs.Rows.{hybrid, rowOf}
 use Rattle.methods.specs.Form.{lengthFits, leadFits, formed}
@@ -111,12 +112,13 @@ k-front : (k kOut : List ℕ) → onto kOut (kRecord k) ≡ k ++ (drop (length k
 unfolding kRecord onto
 k-front k kOut = append-assoc k (drop (length k) (zeros kSize)) (drop (length (k ++ drop (length k) (zeros kSize))) kOut)
 
--- K of a secret with no cause against it, read from the K output: X's number in methods 1 to 6, the digest in 7 to 9
-pub k-back : (role m : ℕ) (cl : Classical) (x : List ℕ) (kem : Kem) (d ks s kOut : List ℕ) → methodOk m ≡ true → secretCause role m cl x kem d ks s ≡ 0
-    → ReadsAs (rowOf m .«k_form») (onto kOut (kRecord (kOf m x d))) x d
-k-back role m cl x kem d ks s kOut ok z =
-    let y = key-sized role m cl x kem d ks s ok z in
-    subst (λ (w : List ℕ). ReadsAs (rowOf m .«k_form») w x d) (sym (k-front (kOf m x d) kOut))
+-- K of a secret with no cause against it, read from the K output: X's number in methods 1 to 6, the digest of K_PQ and X in 7 to 9
+pub k-back : (role m : ℕ) (cl : Classical) (x : List ℕ) (kem : Kem) (kPq ks s kOut : List ℕ) → methodOk m ≡ true → secretCause role m cl x kem kPq ks s ≡ 0
+    → ReadsAs (rowOf m .«k_form») (onto kOut (kRecord (kOf m x kPq))) x (sha2 (rowOf m .«digest_len») (kPq ++ x))
+k-back role m cl x kem kPq ks s kOut ok z =
+    let y = key-sized role m cl x kem kPq ks s ok z in
+    let d : List ℕ = sha2 (rowOf m .«digest_len») (kPq ++ x) in
+    subst (λ (w : List ℕ). ReadsAs (rowOf m .«k_form») w x d) (sym (k-front (kOf m x kPq) kOut))
     (k-read (rowOf m .«k_form») x d _ (omega (arith, y .most, method-row m ok .k-most)))
 
 -- which form that is, by the method

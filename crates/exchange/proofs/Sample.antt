@@ -4,7 +4,7 @@ use mathlib.Core.List.{List, [], _∷_, _++_}
 use mathlib.Core.Bool.{true, cond}
 use lib.ListN.{replicate}
 use lib.Dec.{eqb}
-use Rattle.limits.specs.Limits.{kSize, initLeast, replyLeast, client}
+use Rattle.limits.specs.Limits.{kPqSize, kSize, initLeast, replyLeast, client}
 use Rattle.buffers.specs.Bytes.{zeros}
 use Rattle.messages.specs.Messages.{initBytes, replyBytes}
 use Rattle.methods.specs.Rows.{rowOf}
@@ -36,12 +36,12 @@ abbrev pub kemFor : KForm → Kem
 kemFor Mpint = Absent
 kemFor Digest = Done
 
-abbrev pub digestIn : KForm → ℕ → List ℕ
-digestIn Mpint n = []
-digestIn Digest n = zeros n
+abbrev pub kPqIn : KForm → List ℕ
+kPqIn Mpint = []
+kPqIn Digest = zeros kPqSize
 
 abbrev pub secretCall : Method → List ℕ → List ℕ → Call
-secretCall r ks s = secret (Given (r .«x_len»)) (replicate (r .«x_len») 1) (kemFor (r .«k_form»)) (digestIn (r .«k_form») (r .«digest_len»)) ks s
+secretCall r ks s = secret (Given (r .«x_len»)) (replicate (r .«x_len») 1) (kemFor (r .«k_form»)) (kPqIn (r .«k_form»)) ks s
 
 -- every step of a role, in order
 abbrev pub clientCalls : Method → List Call

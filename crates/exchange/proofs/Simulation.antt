@@ -86,55 +86,55 @@ unfolding fedCause fieldsAfter taken filled
 accepts room (client0 a) (ownC c′ out) e z = record { sound = client1 a (own-c-formed _ c′ _ z); exchange = refl; room-is = room-c _ _ _ _ room c′ }
 accepts room (client0 a) (init p) e z = absurd (false≢true e)
 accepts room (client0 a) (reply p) e z = absurd (false≢true e)
-accepts room (client0 a) (secret cl x kem d ks′ s′) e z = absurd (false≢true e)
+accepts room (client0 a) (secret cl x kem kPq ks′ s′) e z = absurd (false≢true e)
 accepts room (client0 a) (sign g out kOut) e z = absurd (false≢true e)
 accepts room (client0 a) (verdict u v kOut) e z = absurd (false≢true e)
 accepts room (client1 a c) (ownC c′ out) e z = absurd (false≢true e)
 accepts room (client1 a c) (init p) e z = absurd (false≢true e)
 accepts room (client1 a c) (reply p) e z = let r = reply-formed _ p z in record { sound = client2 a c (r .1) (r .2); exchange = refl; room-is = room-reply _ _ _ _ room (fieldOf p 0) _ (fieldOf p 1) }
-accepts room (client1 a c) (secret cl x kem d ks′ s′) e z = absurd (false≢true e)
+accepts room (client1 a c) (secret cl x kem kPq ks′ s′) e z = absurd (false≢true e)
 accepts room (client1 a c) (sign g out kOut) e z = absurd (false≢true e)
 accepts room (client1 a c) (verdict u v kOut) e z = absurd (false≢true e)
 accepts room (client2 a c k s) (ownC c′ out) e z = absurd (false≢true e)
 accepts room (client2 a c k s) (init p) e z = absurd (false≢true e)
 accepts room (client2 a c k s) (reply p) e z = absurd (false≢true e)
-accepts room (client2 a c k s) (secret cl x kem d ks′ s′) e z = record { sound = client3 a c k s (key-sized 1 _ cl x kem d ks′ s′ (a .method-ok) z); exchange = refl; room-is = room-k _ _ _ _ room _ _ _ _ }
+accepts room (client2 a c k s) (secret cl x kem kPq ks′ s′) e z = record { sound = client3 a c k s (key-sized 1 _ cl x kem kPq ks′ s′ (a .method-ok) z); exchange = refl; room-is = room-k _ _ _ _ room _ _ _ _ }
 accepts room (client2 a c k s) (sign g out kOut) e z = absurd (false≢true e)
 accepts room (client2 a c k s) (verdict u v kOut) e z = absurd (false≢true e)
 accepts room (client3 a c k s y) (ownC c′ out) e z = absurd (false≢true e)
 accepts room (client3 a c k s y) (init p) e z = absurd (false≢true e)
 accepts room (client3 a c k s y) (reply p) e z = absurd (false≢true e)
-accepts room (client3 a c k s y) (secret cl x kem d ks′ s′) e z = absurd (false≢true e)
+accepts room (client3 a c k s y) (secret cl x kem kPq ks′ s′) e z = absurd (false≢true e)
 accepts room (client3 a c k s y) (sign g out kOut) e z = absurd (false≢true e)
 accepts room (client3 a c k s y) (verdict u v kOut) e z = record { sound = client4 a c k s y; exchange = refl; room-is = refl }
 accepts room (client4 a c k s y) (ownC c′ out) e z = absurd (false≢true e)
 accepts room (client4 a c k s y) (init p) e z = absurd (false≢true e)
 accepts room (client4 a c k s y) (reply p) e z = absurd (false≢true e)
-accepts room (client4 a c k s y) (secret cl x kem d ks′ s′) e z = absurd (false≢true e)
+accepts room (client4 a c k s y) (secret cl x kem kPq ks′ s′) e z = absurd (false≢true e)
 accepts room (client4 a c k s y) (sign g out kOut) e z = absurd (false≢true e)
 accepts room (client4 a c k s y) (verdict u v kOut) e z = absurd (false≢true e)
 accepts room (server0 a) (ownC c′ out) e z = absurd (false≢true e)
 accepts room (server0 a) (init p) e z = record { sound = server1 a (init-formed _ p z .1); exchange = refl; room-is = room-c _ _ _ _ room (fieldOf p 0) }
 accepts room (server0 a) (reply p) e z = absurd (false≢true e)
-accepts room (server0 a) (secret cl x kem d ks′ s′) e z = absurd (false≢true e)
+accepts room (server0 a) (secret cl x kem kPq ks′ s′) e z = absurd (false≢true e)
 accepts room (server0 a) (sign g out kOut) e z = absurd (false≢true e)
 accepts room (server0 a) (verdict u v kOut) e z = absurd (false≢true e)
 accepts room (server1 a c) (ownC c′ out) e z = absurd (false≢true e)
 accepts room (server1 a c) (init p) e z = absurd (false≢true e)
 accepts room (server1 a c) (reply p) e z = absurd (false≢true e)
-accepts room (server1 a c) (secret cl x kem d ks′ s′) e z = let o = own-formed _ ks′ s′ (secret-known 2 _ cl x kem d ks′ s′ z .3) in record { sound = server2 a c (o .0) (o .1) (key-sized 2 _ cl x kem d ks′ s′ (a .method-ok) z); exchange = refl; room-is = room-secret _ _ _ _ room ks′ _ s′ _ }
+accepts room (server1 a c) (secret cl x kem kPq ks′ s′) e z = let o = own-formed _ ks′ s′ (secret-known 2 _ cl x kem kPq ks′ s′ z .3) in record { sound = server2 a c (o .0) (o .1) (key-sized 2 _ cl x kem kPq ks′ s′ (a .method-ok) z); exchange = refl; room-is = room-secret _ _ _ _ room ks′ _ s′ _ }
 accepts room (server1 a c) (sign g out kOut) e z = absurd (false≢true e)
 accepts room (server1 a c) (verdict u v kOut) e z = absurd (false≢true e)
 accepts room (server2 a c k s y) (ownC c′ out) e z = absurd (false≢true e)
 accepts room (server2 a c k s y) (init p) e z = absurd (false≢true e)
 accepts room (server2 a c k s y) (reply p) e z = absurd (false≢true e)
-accepts room (server2 a c k s y) (secret cl x kem d ks′ s′) e z = absurd (false≢true e)
+accepts room (server2 a c k s y) (secret cl x kem kPq ks′ s′) e z = absurd (false≢true e)
 accepts room (server2 a c k s y) (sign g out kOut) e z = record { sound = server3 a c k s y; exchange = refl; room-is = refl }
 accepts room (server2 a c k s y) (verdict u v kOut) e z = absurd (false≢true e)
 accepts room (server3 a c k s y) (ownC c′ out) e z = absurd (false≢true e)
 accepts room (server3 a c k s y) (init p) e z = absurd (false≢true e)
 accepts room (server3 a c k s y) (reply p) e z = absurd (false≢true e)
-accepts room (server3 a c k s y) (secret cl x kem d ks′ s′) e z = absurd (false≢true e)
+accepts room (server3 a c k s y) (secret cl x kem kPq ks′ s′) e z = absurd (false≢true e)
 accepts room (server3 a c k s y) (sign g out kOut) e z = absurd (false≢true e)
 accepts room (server3 a c k s y) (verdict u v kOut) e z = absurd (false≢true e)
 
@@ -257,7 +257,7 @@ dead-due e n q y = first (stepNo q) (ap (nextStep (e .role)) y ∙ next-failed (
     some (ownC c out) = refl
     some (init p) = refl
     some (reply p) = refl
-    some (secret cl x kem d ks s) = refl
+    some (secret cl x kem kPq ks s) = refl
     some (sign g out kOut) = refl
     some (verdict u v kOut) = refl
 

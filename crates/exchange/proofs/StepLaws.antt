@@ -4,15 +4,16 @@ use mathlib.Core.Path.{_≡_, refl, sym, ap, _∙_}
 use mathlib.Core.List.{List}
 use mathlib.Core.Bool.{Bool, true, false, cond, _&&_}
 use native.Mathlib.Omega.{arith}
-use lib.ListN.{length}
+use lib.ListN.{length, take}
 use lib.Dec.{eqb, ltb}
 use borrow.Author.Tests.{eqb-true, ltb-false}
-use Rattle.limits.specs.Limits.{versionMost, kexinitMost, blobMost, roomLeast}
+use Rattle.limits.specs.Limits.{versionMost, kexinitMost, blobMost, hSize, roomLeast}
 use Rattle.limits.proofs.BoolLaws.{and-true}
 use Rattle.limits.proofs.RangeLaws.{within-most}
 use Rattle.buffers.specs.Bytes.{zeros, onto}
 use Rattle.wire.proofs.CauseLaws.{if-none, unless-none}
-use Rattle.methods.specs.Rows.{kMost}
+use Rattle.sha_words.specs.Message.{sha2, sized}
+use Rattle.methods.specs.Rows.{rowOf, kMost}
 use Rattle.methods.specs.Form.{lengthFits}
 use Rattle.methods.specs.declared.Method.{Method}
 use Rattle.methods.specs.Sound.{Sound}
@@ -23,7 +24,7 @@ use Rattle.transcript.proofs.FieldLaws.{fieldSize-fits, sizeSum-fits}
 use Rattle.exchange.specs.Causes.{blobOk, initCause, replyCause}
 use Rattle.exchange.specs.Numbers.{kind, byKind}
 use Rattle.exchange.specs.Record.{ended, clientNext, serverNext, nextStep, hasC, hasS, cFits, sFits, due}
-use Rattle.exchange.specs.Steps.{Call, init, reply, stepNo, fedCause, stepNumber, number, headEnd, fieldsEnd, headSize, fieldsSize, filled, taken, countOf, secondOf, exchangeAfter, roomAfter, answered, outputAfter, refusedStep, refusedRoom}
+use Rattle.exchange.specs.Steps.{Call, init, reply, stepNo, fedCause, stepNumber, number, headEnd, fieldsEnd, headSize, fieldsSize, filled, taken, countOf, secondOf, exchangeAfter, roomAfter, answered, handedH, outputAfter, refusedStep, refusedRoom}
 use Rattle.exchange.specs.declared.Stage.{Stage}
 use Rattle.exchange.specs.declared.Stage.the-variants.{Started, CSent, InitRead, ReplyRead, SecretDone, Complete, Failed}
 use Rattle.exchange.specs.declared.Lengths.{Lengths}
@@ -55,6 +56,16 @@ module _ (e : Exchange) (room : List ℕ) (q : Call) where
       × (filled e room q ≡ roomAfter e room q)
   unfolding answered exchangeAfter roomAfter kind
   step-accepted z = (rw z, rw z)
+
+  -- H: zeros on a refusal, else the hash of what is counted
+  pub handed-refused : ¬ (number e room q ≡ 0) → zeros hSize ≡ handedH e room q
+  unfolding handedH
+  handed-refused h = sym (kind-same (number e room q) _ (zeros hSize) h)
+
+  pub handed-accepted : number e room q ≡ 0
+      → sized hSize (sha2 (rowOf (e .method) .«digest_len») (take (countOf e room q) (filled e room q))) ≡ handedH e room q
+  unfolding handedH kind
+  handed-accepted z = rw z
 
   -- what it knows: its step is due, the room is long enough, and nothing is wrong with what it was fed
   pub step-known : number e room q ≡ 0 → Due (stepNo q) e × (roomLeast ≤ length room) × (fedCause (e .role) (e .method) q ≡ 0)

@@ -57,6 +57,6 @@ unfolding fedCause ownCCause initCause replyCause secretCause signCause verdictC
 fed-keeps P o role m (ownC c out) = unless-keeps P _ 4 _ (o .of4) (if-keeps P _ 5 0 (o .of5) (o .of0))
 fed-keeps P o role m (init p) = else-keeps P _ _ (message-keeps P o initLayout p) (unless-keeps P _ 14 _ (o .of14) (unless-keeps P _ 15 0 (o .of15) (o .of0)))
 fed-keeps P o role m (reply p) = else-keeps P _ _ (message-keeps P o replyLayout p) (unless-keeps P _ 14 _ (o .of14) (unless-keeps P _ 15 0 (o .of15) (o .of0)))
-fed-keeps P o role m (secret cl x kem d ks s) = unless-keeps P _ 4 _ (o .of4) (if-keeps P _ 16 _ (o .of16) (if-keeps P _ 17 0 (o .of17) (o .of0)))
+fed-keeps P o role m (secret cl x kem kPq ks s) = unless-keeps P _ 4 _ (o .of4) (if-keeps P _ 16 _ (o .of16) (if-keeps P _ 17 0 (o .of17) (o .of0)))
 fed-keeps P o role m (sign g out kOut) = unless-keeps P _ 4 _ (o .of4) (if-keeps P _ 5 0 (o .of5) (o .of0))
 fed-keeps P o role m (verdict u v kOut) = if-keeps P _ 5 _ (o .of5) (unless-keeps P _ 18 0 (o .of18) (o .of0))

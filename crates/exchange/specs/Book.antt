@@ -67,8 +67,8 @@ unfoldable pub fieldsAfter : ℕ → ℕ → Fields → Call → Fields
 fieldsAfter role m f (ownC c out) = brings f (f .ks) c (f .s) (f .k)
 fieldsAfter role m f (init p) = brings f (f .ks) (fieldOf p 0) (f .s) (f .k)
 fieldsAfter role m f (reply p) = brings f (fieldOf p 0) (f .c) (fieldOf p 1) (f .k)
-fieldsAfter role m f (secret cl x kem d ks s) =
-    cond (eqb role server) (brings f ks (f .c) s (kOf m x d)) (brings f (f .ks) (f .c) (f .s) (kOf m x d))
+fieldsAfter role m f (secret cl x kem kPq ks s) =
+    cond (eqb role server) (brings f ks (f .c) s (kOf m x kPq)) (brings f (f .ks) (f .c) (f .s) (kOf m x kPq))
 fieldsAfter role m f (sign g out kOut) = f
 fieldsAfter role m f (verdict a b kOut) = f
 

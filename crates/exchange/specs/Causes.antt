@@ -1,13 +1,14 @@
 -- Document 01's causes on what the caller hands in and on what the peer sent: for the start and each step the first that holds.
 -- Steps and book share these, the wire encodings and the method row. Assumes nothing.
 use Prim.Native.Nat.{ℕ}
-use mathlib.Core.List.{List, [], _∷_}
+use mathlib.Core.List.{List, [], _∷_, _++_}
 use mathlib.Core.Bool.{Bool, true, false, cond, not, _&&_, _||_}
 use lib.ListN.{length, getD}
 use lib.Dec.{ltb, eqb}
-use Rattle.limits.specs.Limits.{versionMost, kexinitMost, blobMost, kSize, roomLeast, initLeast, replyLeast, methodLast, client, server}
+use Rattle.limits.specs.Limits.{versionMost, kexinitMost, blobMost, kPqSize, kSize, roomLeast, initLeast, replyLeast, methodLast, client, server}
 use Rattle.limits.specs.Range.{within}
 use Rattle.wire.specs.Causes.{causeIf, causeUnless, orElse}
+use Rattle.sha_words.specs.Message.{sha2}
 use Rattle.messages.specs.Payload.{messageCause}
 use Rattle.messages.specs.Messages.{initLayout, replyLayout, fieldOf}
 use Rattle.methods.specs.Rows.{hybrid, rowOf}
@@ -89,23 +90,22 @@ present Done = true
 abbrev pub kemOk : Method → Kem → Bool
 kemOk r kem = cond (hybrid (r .«k_form»)) (present kem) (not (present kem))
 
--- the digest: the method's length in a hybrid whose primitives both gave something, else empty
-abbrev pub digestFor : Classical → Kem → ℕ → ℕ
-digestFor (Given n) Done len = len
-digestFor (Given n) NoKem len = 0
-digestFor (Given n) Absent len = 0
-digestFor NoX kem len = 0
+-- K_PQ: 32 bytes exactly when the KEM is done, else none, whatever the classical primitive gave
+abbrev pub kPqFor : Kem → ℕ
+kPqFor Absent = 0
+kPqFor NoKem = 0
+kPqFor Done = kPqSize
 
-abbrev pub digestOk : Method → Classical → Kem → List ℕ → Bool
-digestOk r cl kem d = eqb (length d) (digestFor cl kem (r .«digest_len»))
+abbrev pub kPqOk : Kem → List ℕ → Bool
+kPqOk kem kPq = eqb (length kPq) (kPqFor kem)
 
 -- a server hands in K_S and its own S; a client's are not looked at
 abbrev pub ownOk : ℕ → Method → List ℕ → List ℕ → Bool
 ownOk role r ks s = cond (eqb role server) (blobOk (length ks) && formed (r .s) s) true
 
 -- all that the secret step is handed beside X
-unfoldable pub restOk : ℕ → Method → Classical → Kem → List ℕ → List ℕ → List ℕ → Bool
-restOk role r cl kem d ks s = kemOk r kem && digestOk r cl kem d && ownOk role r ks s
+unfoldable pub restOk : ℕ → Method → Kem → List ℕ → List ℕ → List ℕ → Bool
+restOk role r kem kPq ks s = kemOk r kem && kPqOk kem kPq && ownOk role r ks s
 
 -- X failed, or is all zero where the check is on
 abbrev pub allZero : List ℕ → Bool
@@ -121,14 +121,14 @@ kemBad NoKem = true
 kemBad Done = false
 
 unfoldable pub secretCause : ℕ → ℕ → Classical → List ℕ → Kem → List ℕ → List ℕ → List ℕ → ℕ
-secretCause role m cl x kem d ks s =
-    causeUnless (xOk (rowOf m) cl x && restOk role (rowOf m) cl kem d ks s) 4
+secretCause role m cl x kem kPq ks s =
+    causeUnless (xOk (rowOf m) cl x && restOk role (rowOf m) kem kPq ks s) 4
     (causeIf (xBad (rowOf m) cl x) 16
     (causeIf (kemBad kem) 17 0))
 
--- K, in the method's form
+-- K, in the method's form; a hybrid's digest is the method's hash of K_PQ and then X
 abbrev pub kOf : ℕ → List ℕ → List ℕ → List ℕ
-kOf m x d = kBytes (rowOf m .«k_form») x d
+kOf m x kPq = kBytes (rowOf m .«k_form») x (sha2 (rowOf m .«digest_len») (kPq ++ x))
 
 -- ---- signature
 

@@ -4,11 +4,13 @@ use mathlib.Core.List.{List, _++_}
 use mathlib.Core.Bool.{Bool, cond}
 use lib.ListN.{length, take, drop}
 use lib.Dec.{ltb, eqb}
-use Rattle.limits.specs.Limits.{kSize, roomLeast, server}
+use Rattle.limits.specs.Limits.{hSize, kSize, roomLeast, server}
 use Rattle.buffers.specs.Bytes.{zeros, onto, over}
 use Rattle.wire.specs.Causes.{causeIf, causeUnless}
 use Rattle.wire.specs.Parts.{nothing}
 use Rattle.wire.specs.declared.Part.{Part}
+use Rattle.sha_words.specs.Message.{sha2, sized}
+use Rattle.methods.specs.Rows.{rowOf}
 use Rattle.messages.specs.Messages.{initBytes, replyBytes, fieldPart, fieldOf}
 use Rattle.transcript.specs.Fields.{field, fieldLength, fieldSize, sizeSum}
 use Rattle.exchange.specs.Causes.{startCause, ownCCause, initCause, replyCause, secretCause, signCause, verdictCause, kOf}
@@ -21,13 +23,14 @@ use Rattle.exchange.specs.declared.Stage.the-variants.{Started, CSent, I
 use Rattle.exchange.specs.declared.Lengths.{Lengths}
 use Rattle.exchange.specs.declared.Exchange.{Exchange}
 use Rattle.exchange.specs.declared.Step.{Step}
+use Rattle.exchange.specs.declared.SecretStep.{SecretStep}
 
 -- a call of a step with what it is handed; of an output, its length
 pub data Call : Type 0 where
   ownC : (c : List ℕ) (out : ℕ) → Call
   init : (payload : List ℕ) → Call
   reply : (payload : List ℕ) → Call
-  secret : (cl : Classical) (x : List ℕ) (kem : Kem) (digest ks s : List ℕ) → Call
+  secret : (cl : Classical) (x : List ℕ) (kem : Kem) (kPq ks s : List ℕ) → Call
   sign : (signature : List ℕ) (out kOut : ℕ) → Call
   verdict : (signature hostKey : Bool) (kOut : ℕ) → Call
 
@@ -36,7 +39,7 @@ abbrev pub stepNo : Call → ℕ
 stepNo (ownC c out) = 1
 stepNo (init p) = 2
 stepNo (reply p) = 3
-stepNo (secret cl x kem d ks s) = 4
+stepNo (secret cl x kem kPq ks s) = 4
 stepNo (sign g out kOut) = 5
 stepNo (verdict a b kOut) = 6
 
@@ -45,7 +48,7 @@ unfoldable pub fedCause : ℕ → ℕ → Call → ℕ
 fedCause role m (ownC c out) = ownCCause m c out
 fedCause role m (init p) = initCause m p
 fedCause role m (reply p) = replyCause m p
-fedCause role m (secret cl x kem d ks s) = secretCause role m cl x kem d ks s
+fedCause role m (secret cl x kem kPq ks s) = secretCause role m cl x kem kPq ks s
 fedCause role m (sign g out kOut) = signCause g out kOut
 fedCause role m (verdict a b kOut) = verdictCause a b kOut
 
@@ -94,7 +97,7 @@ unfoldable pub filled : Exchange → List ℕ → Call → List ℕ
 filled e room (ownC c out) = over room (fieldsEnd (e .lens)) (field c)
 filled e room (init p) = over room (fieldsEnd (e .lens)) (field (fieldOf p 0))
 filled e room (reply p) = over room (headEnd (e .lens)) (field (fieldOf p 0) ++ standingC (e .lens) room ++ field (fieldOf p 1))
-filled e room (secret cl x kem d ks s) = secretRoom (e .role) (e .lens) room ks s (kOf (e .method) x d)
+filled e room (secret cl x kem kPq ks s) = secretRoom (e .role) (e .lens) room ks s (kOf (e .method) x kPq)
 filled e room (sign g out kOut) = room
 filled e room (verdict a b kOut) = room
 
@@ -120,8 +123,8 @@ unfoldable pub taken : Exchange → Call → Exchange
 taken e (ownC c out) = withStage e CSent (withC (e .lens) (length c)) (e .k)
 taken e (init p) = withStage e InitRead (withC (e .lens) (length (fieldOf p 0))) (e .k)
 taken e (reply p) = withStage e ReplyRead (withS (e .lens) (length (fieldOf p 0)) (length (fieldOf p 1))) (e .k)
-taken e (secret cl x kem d ks s) =
-    withStage e SecretDone (cond (eqb (e .role) server) (withS (e .lens) (length ks) (length s)) (e .lens)) (kRecord (kOf (e .method) x d))
+taken e (secret cl x kem kPq ks s) =
+    withStage e SecretDone (cond (eqb (e .role) server) (withS (e .lens) (length ks) (length s)) (e .lens)) (kRecord (kOf (e .method) x kPq))
 taken e (sign g out kOut) = withStage e Complete (e .lens) (e .k)
 taken e (verdict a b kOut) = withStage e Complete (e .lens) (e .k)
 
@@ -143,7 +146,7 @@ unfoldable pub countOf : Exchange → List ℕ → Call → ℕ
 countOf e room (ownC c out) = length (initBytes c)
 countOf e room (init p) = 0
 countOf e room (reply p) = 0
-countOf e room (secret cl x kem d ks s) = fieldsEnd (taken e (secret cl x kem d ks s) .lens) + length (kOf (e .method) x d)
+countOf e room (secret cl x kem kPq ks s) = fieldsEnd (taken e (secret cl x kem kPq ks s) .lens) + length (kOf (e .method) x kPq)
 countOf e room (sign g out kOut) = length (replyOf e room g)
 countOf e room (verdict a b kOut) = kLength (e .k)
 
@@ -151,7 +154,7 @@ unfoldable pub secondOf : Exchange → Call → ℕ
 secondOf e (ownC c out) = 0
 secondOf e (init p) = 0
 secondOf e (reply p) = 0
-secondOf e (secret cl x kem d ks s) = 0
+secondOf e (secret cl x kem kPq ks s) = 0
 secondOf e (sign g out kOut) = kLength (e .k)
 secondOf e (verdict a b kOut) = 0
 
@@ -163,6 +166,19 @@ answered e room q = record {
   second = byKind (kind (number e room q)) (secondOf e q) 0 0;
   exchange = exchangeAfter e room q;
 }
+
+-- H as it is handed out, 64 bytes, zeros behind the digest: the method's hash of the room's first bytes, as many as are counted, as they
+-- stand after the step; zeros on a refusal
+unfoldable pub handedH : Exchange → List ℕ → Call → List ℕ
+handedH e room q =
+    byKind (kind (number e room q))
+    (sized hSize (sha2 (rowOf (e .method) .«digest_len») (take (countOf e room q) (filled e room q))))
+    (zeros hSize)
+    (zeros hSize)
+
+-- the secret step's answer
+unfoldable pub secretAnswered : Exchange → List ℕ → Call → SecretStep
+secretAnswered e room q = record { step = answered e room q; h = handedH e room q }
 
 -- an output of bytes b: it begins with them where the call is accepted, else it stays
 unfoldable pub outputAfter : ℕ → List ℕ → List ℕ → List ℕ

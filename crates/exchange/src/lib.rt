@@ -59,3 +59,9 @@ pub struct Step {
     pub second: usize,
     pub exchange: Exchange,
 }
+
+// What the secret step answers: a step's answer, and H with zeros after it.
+pub struct SecretStep {
+    pub step: Step,
+    pub h: [u8; limits::H_SIZE],
+}

@@ -24,14 +24,20 @@ use denote.Struct.Steps.{spelt}
 use denote.Struct.Laws as LL
 use Rattle.exchange.specs.declared.Exchange.{Exchange}
 use Rattle.exchange.specs.declared.Step.{Step as Answered}
+use Rattle.exchange.specs.declared.SecretStep.{SecretStep}
 use Rattle.in_place.specs.declared.Counts.{Counts}
-use Rattle.in_place.specs.InPlace.{countsOf}
+use Rattle.in_place.specs.declared.SecretCounts.{SecretCounts}
+use Rattle.in_place.specs.InPlace.{countsOf, secretCountsOf}
 use Rattle.exchange.proofs.Exchange as X
 use Rattle.exchange.proofs.Exchange.Laws as X′
 use Rattle.exchange.proofs.Step as S
 use Rattle.exchange.proofs.Step.Laws as S′
+use Rattle.exchange.proofs.SecretStep as T
+use Rattle.exchange.proofs.SecretStep.Laws as T′
 use Rattle.in_place.proofs.Counts as R
 use Rattle.in_place.proofs.Counts.Laws as R′
+use Rattle.in_place.proofs.SecretCounts as Q
+use Rattle.in_place.proofs.SecretCounts.Laws as Q′
 
 -- the machine values of an exchange, a step's answer, and an answer in place
 abbrev pub mach : Exchange → Val
@@ -43,9 +49,27 @@ mach-s r = LL.tuple-val S.the-type S′.the-laws (S.the-type .to r)
 abbrev pub mach-r : Counts → Val
 mach-r r = LL.tuple-val R.the-type R′.the-laws (R.the-type .to r)
 
+-- and of the secret's two
+abbrev pub mach-t : SecretStep → Val
+mach-t r = LL.tuple-val T.the-type T′.the-laws (T.the-type .to r)
+
+abbrev pub mach-q : SecretCounts → Val
+mach-q r = LL.tuple-val Q.the-type Q′.the-laws (Q.the-type .to r)
+
 -- an answer in place is a machine value where the step's was
 pub answers : (r : Answered) (v : Val) → Is S.the-row r (v ∷ []) → Is R.the-row (countsOf r) (mach-r (countsOf r) ∷ [])
 answers r v is = let fields = LL.owed S.the-type S′.the-laws r _ is in LL.owes R.the-type R′.the-laws (countsOf r) (fields .0, (fields .1 .0, (fields .1 .1 .0, tt)))
+
+-- the secret's exchange and its answer in place likewise
+module _ (r : SecretStep) (v : Val) (is : Is T.the-row r (v ∷ [])) where
+  pub leaves : Is X.the-row (r .step .exchange) (mach (r .step .exchange) ∷ [])
+  leaves = LL.owed S.the-type S′.the-laws (r .step) _ (LL.owed T.the-type T′.the-laws r _ is .0) .1 .1 .1 .0
+
+  pub secret-answers : Is Q.the-row (secretCountsOf r) (mach-q (secretCountsOf r) ∷ [])
+  secret-answers =
+      let both = LL.owed T.the-type T′.the-laws r _ is in
+      let fields = LL.owed S.the-type S′.the-laws (r .step) _ (both .0) in
+      LL.owes Q.the-type Q′.the-laws (secretCountsOf r) (fields .0, (fields .1 .0, (fields .1 .1 .0, (both .1 .0, tt))))
 
 -- a step's answer of an answer in place and the exchange left, and its machine value
 abbrev pub made : Counts → Exchange → Answered
@@ -53,6 +77,22 @@ made r y = record { number = r .number; count = r .count; second = r .second; ex
 
 pub makes-step : (r : Counts) (v : Val) (y : Exchange) → Is R.the-row r (v ∷ []) → Is X.the-row y (mach y ∷ []) → Is S.the-row (made r y) (mach-s (made r y) ∷ [])
 makes-step r v y is k = let fields = LL.owed R.the-type R′.the-laws r _ is in LL.owes S.the-type S′.the-laws (made r y) (fields .0, (fields .1 .0, (fields .1 .1 .0, (k, tt))))
+
+-- of the secret's: the step's answer in it, and the whole
+abbrev pub stepped : SecretCounts → Exchange → Answered
+stepped r y = record { number = r .number; count = r .count; second = r .second; exchange = y }
+
+abbrev pub secret-made : SecretCounts → Exchange → SecretStep
+secret-made r y = record { step = stepped r y; h = r .h }
+
+module _ (r : SecretCounts) (v : Val) (y : Exchange) (is : Is Q.the-row r (v ∷ [])) (k : Is X.the-row y (mach y ∷ [])) where
+  pub steps : Is S.the-row (stepped r y) (mach-s (stepped r y) ∷ [])
+  steps =
+      let fields = LL.owed Q.the-type Q′.the-laws r _ is in
+      LL.owes S.the-type S′.the-laws (stepped r y) (fields .0, (fields .1 .0, (fields .1 .1 .0, (k, tt))))
+
+  pub makes-secret : Is T.the-row (secret-made r y) (mach-t (secret-made r y) ∷ [])
+  makes-secret = LL.owes T.the-type T′.the-laws (secret-made r y) (steps, (LL.owed Q.the-type Q′.the-laws r _ is .1 .1 .1 .0, tt))
 
 -- what a lent exchange owns
 abbrev pub Lent : Lft → GName → Exchange → ℕ → ℕ → Fml

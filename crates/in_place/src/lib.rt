@@ -1,19 +1,28 @@
 // The steps on an exchange that is lent and changed in place: each calls the step by value, stores its exchange and answers its number
-// and counts. A contract's parts are those of the step by value.
+// and counts, the secret H too. A contract's parts are those of the step by value.
 use exchange::Classical;
 use exchange::Exchange;
 use exchange::Kem;
+use exchange::SecretStep;
 use exchange::Step;
 ghost use mathlib.Core.Path.{_≡_};
 ghost use lib.ListN.{length};
-ghost use Rattle.exchange.specs.Steps.{init, reply, secret as secretStep, verdict as verdictStep, number, answered, roomAfter, outputAfter};
-ghost use Rattle.in_place.specs.InPlace.{inPlace, left};
+ghost use Rattle.exchange.specs.Steps.{init, reply, secret as secretStep, verdict as verdictStep, number, answered, secretAnswered, roomAfter, outputAfter};
+ghost use Rattle.in_place.specs.InPlace.{inPlace, secretInPlace, left};
 
 // What a step in place answers: its number and its counts.
 pub struct Counts {
     pub number: u8,
     pub count: usize,
     pub second: usize,
+}
+
+// What the secret in place answers: H beside them.
+pub struct SecretCounts {
+    pub number: u8,
+    pub count: usize,
+    pub second: usize,
+    pub h: [u8; limits::H_SIZE],
 }
 
 // Server, INIT read, in place.
@@ -53,20 +62,21 @@ pub fn take_secret_in(
     cl: Classical,
     x: &[u8],
     kem: Kem,
-    digest: &[u8],
+    k_pq: &[u8],
     ks: &[u8],
     s: &[u8],
-) -> Counts
+) -> SecretCounts
     ensures { λ r.
-        let q = secretStep cl (now (x .entry)) kem (now (digest .entry)) (now (ks .entry)) (now (s .entry)) in
-        ⌜ (r ≡ inPlace (now (e .entry)) (now (room .entry)) q) × (now (e .exit) ≡ left (now (e .entry)) (now (room .entry)) q) × (now (room .exit) ≡ roomAfter (now (e .entry)) (now (room .entry)) q) ⌝ }
+        let q = secretStep cl (now (x .entry)) kem (now («k_pq» .entry)) (now (ks .entry)) (now (s .entry)) in
+        ⌜ (r ≡ secretInPlace (now (e .entry)) (now (room .entry)) q) × (now (e .exit) ≡ left (now (e .entry)) (now (room .entry)) q) × (now (room .exit) ≡ roomAfter (now (e .entry)) (now (room .entry)) q) ⌝ }
 {
-    let r = steps::take_secret(*e, room, cl, x, kem, digest, ks, s);
-    *e = r.exchange;
-    Counts {
-        number: r.number,
-        count: r.count,
-        second: r.second,
+    let r = steps::take_secret(*e, room, cl, x, kem, k_pq, ks, s);
+    *e = r.step.exchange;
+    SecretCounts {
+        number: r.step.number,
+        count: r.step.count,
+        second: r.step.second,
+        h: r.h,
     }
 }
 
@@ -128,21 +138,24 @@ pub fn take_secret_on_copy(
     cl: Classical,
     x: &[u8],
     kem: Kem,
-    digest: &[u8],
+    k_pq: &[u8],
     ks: &[u8],
     s: &[u8],
-) -> Step
+) -> SecretStep
     ensures { λ r.
-        let call = secretStep cl (now (x .entry)) kem (now (digest .entry)) (now (ks .entry)) (now (s .entry)) in
-        ⌜ (r ≡ answered e (now (room .entry)) call) × (now (room .exit) ≡ roomAfter e (now (room .entry)) call) ⌝ }
+        let call = secretStep cl (now (x .entry)) kem (now («k_pq» .entry)) (now (ks .entry)) (now (s .entry)) in
+        ⌜ (r ≡ secretAnswered e (now (room .entry)) call) × (now (room .exit) ≡ roomAfter e (now (room .entry)) call) ⌝ }
 {
     let mut y = e;
-    let a = take_secret_in(&mut y, room, cl, x, kem, digest, ks, s);
-    Step {
-        number: a.number,
-        count: a.count,
-        second: a.second,
-        exchange: y,
+    let a = take_secret_in(&mut y, room, cl, x, kem, k_pq, ks, s);
+    SecretStep {
+        step: Step {
+            number: a.number,
+            count: a.count,
+            second: a.second,
+            exchange: y,
+        },
+        h: a.h,
     }
 }
 

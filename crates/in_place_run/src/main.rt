@@ -1,6 +1,6 @@
 // Drives a captured exchange, the fields of its standard input, through the steps in place on a copy: as client with a call that is not
-// due, as server, and as server with a peer's fault. For each call it prints the number, the count and a checksum of the room. What it
-// prints is held to the file `stdout`, which tests/expect_in_place.py computes from the capture.
+// due, as server, and as server with a peer's fault. For each call it prints the number, the count and a checksum of the room, and for the
+// secret H. What it prints is held to the file `stdout`, which tests/expect_in_place.py computes from the capture.
 use exchange::Classical;
 use exchange::Exchange;
 use exchange::Kem;
@@ -20,6 +20,21 @@ fn decimal(n: usize) {
 fn item(n: usize) {
     text(b" ");
     decimal(n);
+}
+
+fn hex(b: u8) {
+    io::print_hex(STDOUT_FILENO, b as u64, 2);
+}
+
+// H, with the zeros after it.
+fn print_h(h: &[u8; limits::H_SIZE]) {
+    text(b"H ");
+    let mut i = 0;
+    while i < limits::H_SIZE {
+        hex(h[i]);
+        i += 1;
+    }
+    text(b"\n");
 }
 
 fn mix(h: usize, b: u8) -> usize {
@@ -61,7 +76,7 @@ const C: usize = 4;
 
 const X: usize = 5;
 
-const DIGEST: usize = 6;
+const K_PQ: usize = 6;
 
 const K_S: usize = 7;
 
@@ -122,11 +137,15 @@ fn secret(e: Exchange, rec: &[u8], room: &mut [u8]) -> Exchange {
         Classical::Given(x.len()),
         x,
         Kem::Done,
-        field(rec, DIGEST),
+        field(rec, K_PQ),
         field(rec, K_S),
         field(rec, S),
     );
-    printed(b"secret", st, room)
+    let step = st.step;
+    let h = st.h;
+    let f = printed(b"secret", step, room);
+    print_h(&h);
+    f
 }
 
 fn verdict(e: Exchange, room: &mut [u8]) {

@@ -13,7 +13,7 @@ use Rattle.methods.specs.Rows.{rowOf}
 use Rattle.methods.specs.Form.{formed}
 use Rattle.methods.specs.declared.Method.{Method}
 use Rattle.secret.specs.Secret.{leadingZeros}
-use Rattle.exchange.specs.Causes.{blobOk, xOk, xBad, allZero, kemBad, kemOk, digestFor, restOk, secretCause}
+use Rattle.exchange.specs.Causes.{blobOk, xOk, xBad, allZero, kemBad, kemOk, kPqFor, restOk, secretCause}
 use Rattle.exchange.specs.declared.Classical.{Classical}
 use Rattle.exchange.specs.declared.Classical.the-variants.{Failed as NoX, Given}
 use Rattle.exchange.specs.declared.Kem.{Kem}
@@ -40,34 +40,29 @@ module _ {a b h k : Bool} (e : a ≡ h) (f : b ≡ k) where
       by-test false true t = absurd (false≢true (sym t))
       by-test false false t = refl
 
-module _ (role : ℕ) (r : Method) (cl : Classical) (kem : Kem) (d ks s : List ℕ) where
-  pub rest-kem : kemOk r kem ≡ false → false ≡ restOk role r cl kem d ks s
+module _ (role : ℕ) (r : Method) (kem : Kem) (kPq ks s : List ℕ) where
+  pub rest-kem : kemOk r kem ≡ false → false ≡ restOk role r kem kPq ks s
   unfolding restOk
   rest-kem h = rw h
 
   module _ (a : kemOk r kem ≡ true) where
-    pub rest-digest : (length d ≡ digestFor cl kem (r .«digest_len») → ⊥) → false ≡ restOk role r cl kem d ks s
+    pub rest-k-pq : (length kPq ≡ kPqFor kem → ⊥) → false ≡ restOk role r kem kPq ks s
     unfolding restOk
-    rest-digest h = rw (a, ne-eqb (length d) (digestFor cl kem (r .«digest_len»)) h)
+    rest-k-pq h = rw (a, ne-eqb (length kPq) (kPqFor kem) h)
 
-    module _ (b : length d ≡ digestFor cl kem (r .«digest_len»)) where
-      pub rest-client : (role ≡ server → ⊥) → true ≡ restOk role r cl kem d ks s
+    module _ (b : length kPq ≡ kPqFor kem) where
+      pub rest-client : (role ≡ server → ⊥) → true ≡ restOk role r kem kPq ks s
       unfolding restOk
-      rest-client h = rw (a, eq-eqb (length d) (digestFor cl kem (r .«digest_len»)) b, ne-eqb role server h)
+      rest-client h = rw (a, eq-eqb (length kPq) (kPqFor kem) b, ne-eqb role server h)
 
       module _ (c : role ≡ server) where
-        pub rest-ks : blobOk (length ks) ≡ false → false ≡ restOk role r cl kem d ks s
+        pub rest-ks : blobOk (length ks) ≡ false → false ≡ restOk role r kem kPq ks s
         unfolding restOk
-        rest-ks h = rw (a, eq-eqb (length d) (digestFor cl kem (r .«digest_len»)) b, eq-eqb role server c, h)
+        rest-ks h = rw (a, eq-eqb (length kPq) (kPqFor kem) b, eq-eqb role server c, h)
 
-        pub rest-s : blobOk (length ks) ≡ true → formed (r .s) s ≡ restOk role r cl kem d ks s
+        pub rest-s : blobOk (length ks) ≡ true → formed (r .s) s ≡ restOk role r kem kPq ks s
         unfolding restOk
-        rest-s h = rw (a, eq-eqb (length d) (digestFor cl kem (r .«digest_len»)) b, eq-eqb role server c, h)
-
--- the rest, as it was judged on an outcome that a test told
-pub rest-told : (role m : ℕ) (cl cl′ : Classical) (kem : Kem) (d ks s : List ℕ) (t : Bool)
-    → t ≡ restOk role (rowOf m) cl′ kem d ks s → cl ≡ cl′ → t ≡ restOk role (rowOf m) cl kem d ks s
-rest-told role m cl cl′ kem d ks s t e g = e ∙ (λ i. restOk role (rowOf m) (sym g i) kem d ks s)
+        rest-s h = rw (a, eq-eqb (length kPq) (kPqFor kem) b, eq-eqb role server c, h)
 
 -- ---- secretCause
 
@@ -79,44 +74,44 @@ pub not-zero : (t : Bool) (x : List ℕ) (n : ℕ) → n ≡ leadingZeros x → 
 not-zero true x n e h = ne-eqb (leadingZeros x) (length x) (λ z. h (e ∙ z))
 not-zero false x n e h = refl
 
-module _ (role m : ℕ) (cl : Classical) (x : List ℕ) (kem : Kem) (d ks s : List ℕ) where
-  pub secret-failed : cl ≡ NoX → causeUnless (restOk role (rowOf m) cl kem d ks s) 4 16 ≡ secretCause role m cl x kem d ks s
+module _ (role m : ℕ) (cl : Classical) (x : List ℕ) (kem : Kem) (kPq ks s : List ℕ) where
+  pub secret-failed : cl ≡ NoX → causeUnless (restOk role (rowOf m) kem kPq ks s) 4 16 ≡ secretCause role m cl x kem kPq ks s
   unfolding secretCause
   secret-failed e =
-      let t = restOk role (rowOf m) cl kem d ks s in
+      let t = restOk role (rowOf m) kem kPq ks s in
       sym
       (ap (λ (k : Classical). causeUnless (xOk (rowOf m) k x && t) 4 (causeIf (xBad (rowOf m) k x) 16 (causeIf (kemBad kem) 17 0))) e
       ∙ ap (causeUnless t 4) (if-holds true 16 _ refl))
 
   module _ (n : ℕ) (e : cl ≡ Given n) where
-    given : secretCause role m cl x kem d ks s
-        ≡ causeUnless (eqb n (rowOf m .«x_len») && eqb (length x) (rowOf m .«x_len») && restOk role (rowOf m) cl kem d ks s) 4
+    given : secretCause role m cl x kem kPq ks s
+        ≡ causeUnless (eqb n (rowOf m .«x_len») && eqb (length x) (rowOf m .«x_len») && restOk role (rowOf m) kem kPq ks s) 4
         (causeIf (rowOf m .«zero_check» && allZero x) 16 (causeIf (kemBad kem) 17 0))
     unfolding secretCause
     given =
-        let t = restOk role (rowOf m) cl kem d ks s in
+        let t = restOk role (rowOf m) kem kPq ks s in
         ap (λ (k : Classical). causeUnless (xOk (rowOf m) k x && t) 4 (causeIf (xBad (rowOf m) k x) 16 (causeIf (kemBad kem) 17 0))) e
 
-    pub secret-count : (n ≡ rowOf m .«x_len» → ⊥) → 4 ≡ secretCause role m cl x kem d ks s
+    pub secret-count : (n ≡ rowOf m .«x_len» → ⊥) → 4 ≡ secretCause role m cl x kem kPq ks s
     secret-count h = sym (given ∙ unless-fails _ 4 _ (rw (ne-eqb n (rowOf m .«x_len») h)))
 
     module _ (a : n ≡ rowOf m .«x_len») where
-      pub secret-length : (length x ≡ rowOf m .«x_len» → ⊥) → 4 ≡ secretCause role m cl x kem d ks s
+      pub secret-length : (length x ≡ rowOf m .«x_len» → ⊥) → 4 ≡ secretCause role m cl x kem kPq ks s
       secret-length h = sym (given ∙ unless-fails _ 4 _ (rw (eq-eqb n (rowOf m .«x_len») a, ne-eqb (length x) (rowOf m .«x_len») h)))
 
       module _ (b : length x ≡ rowOf m .«x_len») where
-        pub secret-rest : restOk role (rowOf m) cl kem d ks s ≡ false → 4 ≡ secretCause role m cl x kem d ks s
+        pub secret-rest : restOk role (rowOf m) kem kPq ks s ≡ false → 4 ≡ secretCause role m cl x kem kPq ks s
         secret-rest h =
             sym (given ∙ unless-fails _ 4 _ (rw (eq-eqb n (rowOf m .«x_len») a, eq-eqb (length x) (rowOf m .«x_len») b, h)))
 
-        module _ (r : restOk role (rowOf m) cl kem d ks s ≡ true) where
-          handed : secretCause role m cl x kem d ks s ≡ causeIf (rowOf m .«zero_check» && allZero x) 16 (causeIf (kemBad kem) 17 0)
+        module _ (r : restOk role (rowOf m) kem kPq ks s ≡ true) where
+          handed : secretCause role m cl x kem kPq ks s ≡ causeIf (rowOf m .«zero_check» && allZero x) 16 (causeIf (kemBad kem) 17 0)
           handed =
               given ∙ unless-holds _ 4 _ (rw (eq-eqb n (rowOf m .«x_len») a, eq-eqb (length x) (rowOf m .«x_len») b, r))
 
-          pub secret-zero : (rowOf m .«zero_check» && allZero x) ≡ true → 16 ≡ secretCause role m cl x kem d ks s
+          pub secret-zero : (rowOf m .«zero_check» && allZero x) ≡ true → 16 ≡ secretCause role m cl x kem kPq ks s
           secret-zero h = sym (handed ∙ if-holds _ 16 _ h)
 
           -- an X that is not refused leaves the KEM to look at
-          pub secret-left : (rowOf m .«zero_check» && allZero x) ≡ false → causeIf (kemBad kem) 17 0 ≡ secretCause role m cl x kem d ks s
+          pub secret-left : (rowOf m .«zero_check» && allZero x) ≡ false → causeIf (kemBad kem) 17 0 ≡ secretCause role m cl x kem kPq ks s
           secret-left z = sym (handed ∙ if-fails _ 16 _ z)

@@ -1,10 +1,10 @@
-// Document 01's causes in what the secret step is handed: the primitives' outcomes, X, the digest, a server's K_S and S.
+// Document 01's causes in what the secret step is handed: the primitives' outcomes, X, K_PQ, a server's K_S and S.
 use exchange::Classical;
 use exchange::Kem;
 ghost use mathlib.Core.Path.{_≡_};
 ghost use Rattle.wire.specs.Causes.{causeUnless};
 ghost use Rattle.methods.specs.Rows.{rowOf};
-ghost use Rattle.exchange.specs.Causes.{present, digestFor, restOk, secretCause};
+ghost use Rattle.exchange.specs.Causes.{present, kPqFor, restOk, secretCause};
 
 // Whether a KEM's outcome is there.
 fn is_present(kem: Kem) -> bool
@@ -17,36 +17,25 @@ fn is_present(kem: Kem) -> bool
     }
 }
 
-// How long the digest must be, by the outcomes.
-fn digest_for(cl: Classical, kem: Kem, len: usize) -> usize
-    ensures { λ r. ⌜ r ≡ digestFor cl kem len ⌝ }
+// How long K_PQ must be, by the KEM's outcome.
+fn k_pq_for(kem: Kem) -> usize
+    ensures { λ r. ⌜ r ≡ kPqFor kem ⌝ }
 {
-    let Classical::Given(_) = cl else {
-        return 0;
-    };
     match kem {
         Kem::Absent => 0,
         Kem::Failed => 0,
-        Kem::Done => len,
+        Kem::Done => limits::K_PQ_SIZE,
     }
 }
 
-// Whether what the secret step is handed beside X is right: the KEM's presence, the digest's length, a server's K_S and S.
-fn rest_ok(
-    role: u8,
-    method: u8,
-    cl: Classical,
-    kem: Kem,
-    digest: &[u8],
-    ks: &[u8],
-    s: &[u8],
-) -> bool
-    ensures { λ r. ⌜ r ≡ restOk role (rowOf method) cl kem (now (digest .entry)) (now (ks .entry)) (now (s .entry)) ⌝ }
+// Whether what the secret step is handed beside X is right: the KEM's presence, K_PQ's length, a server's K_S and S.
+fn rest_ok(role: u8, method: u8, kem: Kem, k_pq: &[u8], ks: &[u8], s: &[u8]) -> bool
+    ensures { λ r. ⌜ r ≡ restOk role (rowOf method) kem (now («k_pq» .entry)) (now (ks .entry)) (now (s .entry)) ⌝ }
 {
     if methods::is_hybrid(methods::k_form(method)) != is_present(kem) {
         return false;
     }
-    if digest.len() != digest_for(cl, kem, methods::digest_len(method)) {
+    if k_pq.len() != k_pq_for(kem) {
         return false;
     }
     if role != limits::SERVER {
@@ -59,18 +48,10 @@ fn rest_ok(
 }
 
 // The refusal for a failed classical primitive: 4 where the rest is wrong, else 16.
-fn failed_cause(
-    role: u8,
-    method: u8,
-    cl: Classical,
-    kem: Kem,
-    digest: &[u8],
-    ks: &[u8],
-    s: &[u8],
-) -> u8
-    ensures { λ r. ⌜ r ≡ causeUnless (restOk role (rowOf method) cl kem (now (digest .entry)) (now (ks .entry)) (now (s .entry))) 4 16 ⌝ }
+fn failed_cause(role: u8, method: u8, kem: Kem, k_pq: &[u8], ks: &[u8], s: &[u8]) -> u8
+    ensures { λ r. ⌜ r ≡ causeUnless (restOk role (rowOf method) kem (now («k_pq» .entry)) (now (ks .entry)) (now (s .entry))) 4 16 ⌝ }
 {
-    if rest_ok(role, method, cl, kem, digest, ks, s) {
+    if rest_ok(role, method, kem, k_pq, ks, s) {
         16
     } else {
         4
@@ -84,14 +65,14 @@ pub fn secret_cause(
     cl: Classical,
     x: &[u8],
     kem: Kem,
-    digest: &[u8],
+    k_pq: &[u8],
     ks: &[u8],
     s: &[u8],
 ) -> u8
-    ensures { λ r. ⌜ r ≡ secretCause role method cl (now (x .entry)) kem (now (digest .entry)) (now (ks .entry)) (now (s .entry)) ⌝ }
+    ensures { λ r. ⌜ r ≡ secretCause role method cl (now (x .entry)) kem (now («k_pq» .entry)) (now (ks .entry)) (now (s .entry)) ⌝ }
 {
     let Classical::Given(n) = cl else {
-        return failed_cause(role, method, cl, kem, digest, ks, s);
+        return failed_cause(role, method, kem, k_pq, ks, s);
     };
     let len = methods::x_len(method);
     if n != len {
@@ -100,7 +81,7 @@ pub fn secret_cause(
     if x.len() != len {
         return 4;
     }
-    if !rest_ok(role, method, cl, kem, digest, ks, s) {
+    if !rest_ok(role, method, kem, k_pq, ks, s) {
         return 4;
     }
     if methods::zero_check(method) {

@@ -60,11 +60,11 @@ module _ (e : Exchange) (o : methodOk (e .method) ≡ true) where
   taken-short (reply p) z h =
       let a = reply-formed (e .method) p z in
       short-s (e .lens) (length (fieldOf p 0)) (length (fieldOf p 1)) h (blob-short (fieldOf p 0) (a .1)) (s-short (e .method) (fieldOf p 1) o (a .2))
-  taken-short (secret cl x kem d ks s) z h = by-role (eqb (e .role) server) refl
+  taken-short (secret cl x kem kPq ks s) z h = by-role (eqb (e .role) server) refl
     where
       by-role : (t : Bool) → eqb (e .role) server ≡ t → Short (cond t (withS (e .lens) (length ks) (length s)) (e .lens))
       by-role true w =
-          let k = secret-known (e .role) (e .method) cl x kem d ks s z .3 in
+          let k = secret-known (e .role) (e .method) cl x kem kPq ks s z .3 in
           let a = own-formed (e .method) ks s (ap (λ (r : ℕ). ownOk r (rowOf (e .method)) ks s) (sym (eqb-true (e .role) server w)) ∙ k) in
           short-s (e .lens) (length ks) (length s) h (blob-short ks (a .0)) (s-short (e .method) s o (a .1))
       by-role false w = h
@@ -76,9 +76,9 @@ module _ (e : Exchange) (o : methodOk (e .method) ≡ true) where
   taken-k (ownC c out) z h = h
   taken-k (init p) z h = h
   taken-k (reply p) z h = h
-  taken-k (secret cl x kem d ks s) z h =
-      let k = kOf (e .method) x d in
-      let a = key-sized (e .role) (e .method) cl x kem d ks s o z .most in
+  taken-k (secret cl x kem kPq ks s) z h =
+      let k = kOf (e .method) x kPq in
+      let a = key-sized (e .role) (e .method) cl x kem kPq ks s o z .most in
       length-onto (zeros kSize) k (omega (arith, method-row (e .method) o .k-most))
   taken-k (sign g out kOut) z h = h
   taken-k (verdict a b kOut) z h = h

@@ -18,7 +18,7 @@ use Rattle.exchange.specs.declared.Stage.the-variants.{Started, CSent, InitRead
 use Rattle.exchange.specs.declared.Exchange.{Exchange}
 use Rattle.exchange.specs.declared.Step.{Step}
 use Rattle.exchange.proofs.KindLaws.{kind-same, kind-fault, kind-other, kind-accepted}
-use Rattle.exchange.proofs.StepLaws.{step-known}
+use Rattle.exchange.proofs.StepLaws.{step-known, handed-refused}
 use Rattle.stored.specs.Stored.{stageNumber, failNumber, encoded, fits, lengthsIn, LengthBytes, decoded, byFit, bySize, lengthsTold, kTold}
 use Rattle.changes.specs.Changes.{put16, putHead}
 use Rattle.stored.proofs.StoredLaws.{role-read, method-read, size-taken, size-left, fits-known, fit-taken}
@@ -58,7 +58,8 @@ module _ (e : Exchange) (room : List ℕ) where
   tells-none (init p) h = ap placeOf (kind-same _ (fieldPart p 0) nothing h)
   tells-none (reply p) h =
       λ i. placeOf (kind-same _ (fieldPart p 0) nothing h i) ++ placeOf (kind-same _ (fieldPart p 1) nothing h i) ++ placeOf (kind-same _ (fieldPart p 2) nothing h i)
-  tells-none (secret cl x kem d ks s) h = ap (λ (n : ℕ). n ∷ []) (kind-same _ (countOf e room (secret cl x kem d ks s)) 0 h)
+  tells-none (secret cl x kem kPq ks s) h =
+      λ i. kind-same _ (countOf e room (secret cl x kem kPq ks s)) 0 h i ∷ sym (handed-refused e room (secret cl x kem kPq ks s) h) i
   tells-none (sign g out kOut) h =
       λ i. kind-same _ (countOf e room (sign g out kOut)) 0 h i ∷ kind-same _ (secondOf e (sign g out kOut)) 0 h i ∷ []
   tells-none (verdict a b kOut) h = ap (λ (n : ℕ). n ∷ []) (kind-same _ (countOf e room (verdict a b kOut)) 0 h)
@@ -137,7 +138,7 @@ step-some : (q : Call) → ¬ (stepNo q ≡ 0)
 step-some (ownC c out) h = let w : ⊥ = omega arith in w
 step-some (init p) h = let w : ⊥ = omega arith in w
 step-some (reply p) h = let w : ⊥ = omega arith in w
-step-some (secret cl x kem d ks s) h = let w : ⊥ = omega arith in w
+step-some (secret cl x kem kPq ks s) h = let w : ⊥ = omega arith in w
 step-some (sign g out kOut) h = let w : ⊥ = omega arith in w
 step-some (verdict a b kOut) h = let w : ⊥ = omega arith in w
 

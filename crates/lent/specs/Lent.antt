@@ -1,18 +1,19 @@
 -- What a call on an exchange in lent bytes answers and leaves, by the definitions of the step by value. Assumes nothing.
-use Prim.Native.Nat.{ℕ}
+use Prim.Native.Nat.{ℕ, _+_}
 use mathlib.Core.List.{List, [], _∷_, _++_}
 use lib.ListN.{length}
+use Rattle.limits.specs.Limits.{hSize}
 use Rattle.buffers.specs.Bytes.{zeros}
 use Rattle.wire.specs.declared.Part.{Part}
 use Rattle.messages.specs.Messages.{initBytes}
-use Rattle.exchange.specs.Steps.{Call, ownC, init, reply, secret, sign, verdict, number, taken, roomAfter, replyOf, answered, outputAfter, stepPart, started, startedRoom}
+use Rattle.exchange.specs.Steps.{Call, ownC, init, reply, secret, sign, verdict, number, taken, roomAfter, replyOf, answered, handedH, outputAfter, stepPart, started, startedRoom}
 use Rattle.exchange.specs.Numbers.{kind, byKind}
 use Rattle.exchange.specs.Record.{ended}
 use Rattle.exchange.specs.declared.Exchange.{Exchange}
 use Rattle.exchange.specs.declared.Step.{Step}
 use Rattle.stored.specs.Stored.{encoded, decoded, byFit, bySize}
 
--- the number; what goes through lent numbers; and the lent bytes as they are left: the exchange's, the room, the outputs
+-- the number; what goes through lent numbers, H too; and the lent bytes as they are left: the exchange's, the room, the outputs
 pub record Left : Type 0 where
   pub number : ℕ
   pub told : List ℕ
@@ -23,7 +24,7 @@ pub record Left : Type 0 where
 abbrev pub left : ℕ → List ℕ → List ℕ → List ℕ → List (List ℕ) → Left
 left n told ex room outs = record { number = n; told = told; exchange = ex; room = room; outputs = outs }
 
--- ---- what a call tells: counts, or start and length of each part
+-- ---- what a call tells: counts, at the secret step H behind them, or start and length of each part
 
 abbrev pub placeOf : Part → List ℕ
 placeOf p = p .start ∷ p .len ∷ []
@@ -38,7 +39,7 @@ unfoldable pub tells : Exchange → List ℕ → Call → List ℕ
 tells e room (ownC c out) = counts (answered e room (ownC c out))
 tells e room (init p) = placeOf (stepPart e room (init p) p 0)
 tells e room (reply p) = placeOf (stepPart e room (reply p) p 0) ++ placeOf (stepPart e room (reply p) p 1) ++ placeOf (stepPart e room (reply p) p 2)
-tells e room (secret cl x kem d ks s) = counts (answered e room (secret cl x kem d ks s))
+tells e room (secret cl x kem kPq ks s) = counts (answered e room (secret cl x kem kPq ks s)) ++ handedH e room (secret cl x kem kPq ks s)
 tells e room (sign g out kOut) = bothCounts (answered e room (sign g out kOut))
 tells e room (verdict a b kOut) = counts (answered e room (verdict a b kOut))
 
@@ -47,7 +48,7 @@ abbrev pub toldSize : Call → ℕ
 toldSize (ownC c out) = 1
 toldSize (init p) = 2
 toldSize (reply p) = 6
-toldSize (secret cl x kem d ks s) = 1
+toldSize (secret cl x kem kPq ks s) = 1 + hSize
 toldSize (sign g out kOut) = 2
 toldSize (verdict a b kOut) = 1
 
@@ -57,7 +58,7 @@ abbrev pub writes : Exchange → List ℕ → Call → List (List ℕ)
 writes e room (ownC c out) = initBytes c ∷ []
 writes e room (init p) = []
 writes e room (reply p) = []
-writes e room (secret cl x kem d ks s) = []
+writes e room (secret cl x kem kPq ks s) = []
 writes e room (sign g out kOut) = replyOf e room g ∷ e .k ∷ []
 writes e room (verdict a b kOut) = e .k ∷ []
 

@@ -1,44 +1,51 @@
 -- What the secret step owes at its returns, and what it knows where it is accepted. Assumes nothing.
 use Prim.Native.Nat.{ℕ, _+_, _≤_, _-_}
 use mathlib.Core.Path.{_≡_, refl, sym, ap, _∙_}
-use mathlib.Core.List.{List, [], _∷_, _++_}
+use mathlib.Core.List.{List, [], _∷_, _++_, append-nil}
 use mathlib.Core.Bool.{Bool, true, false, cond}
 use native.Mathlib.Omega.{arith}
 use lib.Dec.{eqb}
 use lib.ListN.{length, getD, set, length-append, take, drop, length-drop, length-replicate}
 use lib.Seq.{length-take-le}
 use borrow.Author.Tests.{le-leb, eq-eqb, ne-eqb, eqb-true, eqb-false}
-use Rattle.limits.specs.Limits.{blobMost, kSize, exchangeSize, roomLeast, server}
+use Rattle.limits.specs.Limits.{blobMost, hashMost, hSize, kSize, exchangeSize, roomLeast, server}
 use Rattle.limits.proofs.RangeLaws.{within-most}
 use Rattle.buffers.specs.Bytes.{zeros, onto, over, laid}
 use Rattle.buffers.proofs.ByteLaws.{length-over, over-over, laid-fits}
 use Rattle.wire.specs.Parts.{part, inside, bytesAt}
 use Rattle.wire.proofs.PartLaws.{inside-fits}
+use Rattle.sha_words.specs.Message.{sha2, sized}
+use Rattle.sha_words.proofs.DigestLaws.{length-sha2}
+use Rattle.sha_words.proofs.SizedLaws.{length-sized, take-sized}
+use Rattle.sha2.specs.Hash.{digested}
+use Rattle.sha2.specs.declared.Digest.{Digest}
+use Rattle.sha2.proofs.WholeLaws.{digested-known}
 use Rattle.methods.specs.Rows.{rowOf, kMost}
 use Rattle.methods.proofs.FormLaws.{length-most}
 use Rattle.methods.specs.declared.KForm.{KForm}
+use Rattle.methods.specs.declared.KForm.the-variants.{Mpint}
 use Rattle.methods.specs.Sound.{Sound}
 use Rattle.secret.specs.Secret.{kBytes, kept}
 use Rattle.secret.specs.declared.Secret.{Secret}
 use Rattle.secret.proofs.SecretLaws.{kept-fits, drop-zeros}
 use Rattle.transcript.specs.Fields.{field, fieldLength, around, fieldSize}
 use Rattle.transcript.proofs.RoomLaws.{length-field, take-onto}
-use Rattle.exchange.specs.Causes.{secretCause, ownOk, kOf}
+use Rattle.exchange.specs.Causes.{methodOk, secretCause, ownOk, kOf}
 use Rattle.exchange.specs.Record.{noLengths}
 use Rattle.exchange.specs.Steps.{Call, fedCause, number, headEnd, fieldsEnd, standingC, filled, withS, taken, countOf, secondOf, answered, roomAfter, secret, kRecord, withStage, headSize, fieldsSize}
 use Rattle.exchange.specs.declared.Stage.the-variants.{SecretDone}
 use Rattle.exchange.specs.declared.Exchange.{Exchange}
 use Rattle.exchange.specs.declared.Step.{Step}
-use Rattle.exchange.proofs.CauseFacts.{method-row, secret-known, own-formed, key-sized}
+use Rattle.exchange.proofs.CauseFacts.{method-row, secret-known, own-formed, secret-short, key-sized}
 use Rattle.exchange.specs.declared.Lengths.{Lengths}
-use Rattle.exchange.proofs.StepLaws.{bounded, small, step-known, step-accepted, Bounded, all-most, size-fits, head-fits, fields-fits, Small}
+use Rattle.exchange.proofs.StepLaws.{bounded, small, step-known, step-accepted, handed-accepted, Bounded, all-most, size-fits, head-fits, fields-fits, Small}
 use Rattle.exchange.specs.declared.Classical.{Classical}
 use Rattle.exchange.specs.declared.Kem.{Kem}
 use Rattle.stored.specs.Stored.{encoded, lengthsIn, decoded, bySize, lengthsTold}
 use Rattle.changes.specs.Changes.{put16}
 use Rattle.stored.proofs.StoredLaws.{role-read, size-taken, fits-known}
 use Rattle.stored.proofs.RoundTrip.{Short, decoded-encoded, encoded-fits}
-use Rattle.lent.specs.Lent.{counts, tells}
+use Rattle.lent.specs.Lent.{tells}
 use Rattle.lent.proofs.LentLaws.{Opened, s-changed, k-changed}
 
 -- ---- K and its record
@@ -72,13 +79,40 @@ key-part : (k : List ℕ) (len : ℕ) (bytes src : List ℕ) → length k ≤ kS
     → src ≡ bytesAt bytes (inside (length bytes) (part 0 len)) → src ≡ k
 key-part k len bytes src h l b f = f ∙ (λ i. bytesAt (b i) (inside (length (b i)) (part 0 (l i)))) ∙ record-part k h
 
--- what `k_of` gave
-pub key-kept : (m : ℕ) (w : KForm) (g : Secret) (x d : List ℕ) → length (kOf m x d) ≤ kSize → w ≡ rowOf m .«k_form» → g ≡ kept (kBytes w x d)
-    → (g .len ≡ length (kOf m x d)) × (g .bytes ≡ kRecord (kOf m x d))
-key-kept m w g x d h r f =
-    let e : g ≡ record { number = 0; len = length (kOf m x d); bytes = kOf m x d ++ zeros (kSize - length (kOf m x d)) } =
-    f ∙ ap (λ (v : KForm). kept (kBytes v x d)) r ∙ sym (kept-fits (kOf m x d) h) in
-    (ap (λ (v : Secret). v .len) e, ap (λ (v : Secret). v .bytes) e ∙ record-kept (kOf m x d) h)
+-- what `key_of` gave
+pub key-kept : (k : List ℕ) (g : Secret) → length k ≤ kSize → g ≡ kept k → (g .len ≡ length k) × (g .bytes ≡ kRecord k)
+key-kept k g h f =
+    let e = f ∙ sym (kept-fits k h) in
+    (ap (λ (v : Secret). v .len) e, ap (λ (v : Secret). v .bytes) e ∙ record-kept k h)
+
+-- ---- K by its form, and H
+
+module _ (m : ℕ) (f : KForm) (x kPq : List ℕ) (r : f ≡ rowOf m .«k_form») where
+  pub key-number : f ≡ Mpint → (d : List ℕ) → kept (kBytes f x d) ≡ kept (kOf m x kPq)
+  key-number e d =
+      ap (λ (w : KForm). kept (kBytes w x d)) e ∙ ap (λ (w : KForm). kept (kBytes w x (sha2 (rowOf m .«digest_len») (kPq ++ x)))) (sym e ∙ r)
+
+  -- the digest stands at the beginning of what was hashed
+  pub key-digest : methodOk m ≡ true → length kPq + length x ≤ hashMost → (len : ℕ) (d : Digest) (src : List ℕ) → len ≡ rowOf m .«digest_len»
+      → d ≡ digested len (kPq ++ x) → src ≡ bytesAt (d .bytes) (inside (length (d .bytes)) (part 0 len)) → kBytes f x src ≡ kOf m x kPq
+  key-digest ok h len d src l g p =
+      let row = method-row m ok in
+      let n : ℕ = rowOf m .«digest_len» in
+      let t : List ℕ = sha2 n (kPq ++ x) in
+      let k : length t ≡ n = length-sha2 n (kPq ++ x) (row .digest-kind) in
+      let b : d .bytes ≡ sized hSize t =
+      ap (λ (y : Digest). y .bytes) (g ∙ ap (λ (y : ℕ). digested y (kPq ++ x)) l ∙ digested-known n (kPq ++ x) (row .digest-kind) (omega (arith, length-append kPq x))) in
+      let w : n ≤ length (sized hSize t) = omega (arith, length-sized hSize t (omega (arith, row .digest-most)), row .digest-most) in
+      let c : src ≡ t =
+      p ∙ (λ i. bytesAt (b i) (inside (length (b i)) (part 0 (l i)))) ∙ ap (bytesAt (sized hSize t)) (inside-fits (length (sized hSize t)) (part 0 n) (omega arith)) ∙ take-sized hSize n t k in
+      λ i. kBytes (r i) x (c i)
+
+pub hash-is : (m : ℕ) (a b room : List ℕ) (n len : ℕ) (d : Digest) → methodOk m ≡ true → n ≤ hashMost → n ≤ length room → len ≡ rowOf m .«digest_len» → a ≡ take n room → b ≡ []
+    → d ≡ digested len (a ++ b) → d .bytes ≡ sized hSize (sha2 (rowOf m .«digest_len») (take n room))
+hash-is m a b room n len d ok h k l p q g =
+    let t = take n room in
+    let e = (λ i. digested (l i) (p i ++ q i)) ∙ ap (digested (rowOf m .«digest_len»)) (append-nil t) in
+    ap (λ (y : Digest). y .bytes) (g ∙ e ∙ digested-known _ t (method-row m ok .digest-kind) (omega (arith, length-take-le n room k)))
 
 -- ---- the room
 
@@ -104,33 +138,36 @@ room-server l room ks s k h =
 -- ---- the step
 
 -- what it knows where it is accepted
-pub record SecretFits (e : Exchange) (room x d : List ℕ) : Type 0 where
+pub record SecretFits (e : Exchange) (room x kPq : List ℕ) : Type 0 where
   pub row : Sound (rowOf (e .method))
   pub bounds : Bounded (rowOf (e .method)) (e .lens)
   pub sums : Small (e .lens)
   pub room-least : roomLeast ≤ length room
-  pub k-row : length (kOf (e .method) x d) ≤ 4 + kMost (rowOf (e .method))
-  pub k-fits : length (kOf (e .method) x d) ≤ kSize
-  pub all-fits : fieldsEnd (e .lens) + length (kOf (e .method) x d) ≤ roomLeast
+  pub k-row : length (kOf (e .method) x kPq) ≤ 4 + kMost (rowOf (e .method))
+  pub k-fits : length (kOf (e .method) x kPq) ≤ kSize
+  pub all-fits : fieldsEnd (e .lens) + length (kOf (e .method) x kPq) ≤ roomLeast
+  pub method-ok : methodOk (e .method) ≡ true
+  pub hash-fits : length kPq + length x ≤ hashMost
 
 -- and a server beside: K_S and S are of the method's lengths
-pub record ServerFits (e : Exchange) (x d ks s : List ℕ) : Type 0 where
+pub record ServerFits (e : Exchange) (x kPq ks s : List ℕ) : Type 0 where
   pub sums : Small (withS (e .lens) (length ks) (length s))
-  pub all-fits : fieldsEnd (withS (e .lens) (length ks) (length s)) + length (kOf (e .method) x d) ≤ roomLeast
+  pub all-fits : fieldsEnd (withS (e .lens) (length ks) (length s)) + length (kOf (e .method) x kPq) ≤ roomLeast
 
-module _ (e : Exchange) (room : List ℕ) (cl : Classical) (x : List ℕ) (kem : Kem) (d ks s : List ℕ) where
-  cause-none : number e room (secret cl x kem d ks s) ≡ 0 → secretCause (e .role) (e .method) cl x kem d ks s ≡ 0
+module _ (e : Exchange) (room : List ℕ) (cl : Classical) (x : List ℕ) (kem : Kem) (kPq ks s : List ℕ) where
+  cause-none : number e room (secret cl x kem kPq ks s) ≡ 0 → secretCause (e .role) (e .method) cl x kem kPq ks s ≡ 0
   unfolding fedCause
-  cause-none z = step-known e room (secret cl x kem d ks s) z .2
+  cause-none z = step-known e room (secret cl x kem kPq ks s) z .2
 
-  module _ (z : number e room (secret cl x kem d ks s) ≡ 0) where
+  module _ (z : number e room (secret cl x kem kPq ks s) ≡ 0) where
     -- lengths and K are within their bounds
-    pub secret-fits : SecretFits e room x d
+    pub secret-fits : SecretFits e room x kPq
     secret-fits =
-        let a = step-known e room (secret cl x kem d ks s) z in
+        let a = step-known e room (secret cl x kem kPq ks s) z in
         let r = method-row (e .method) (a .0 .method-ok) in
         let b = bounded (rowOf (e .method)) (e .stage) (e .lens) (a .0 .lengths) in
-        let k = key-sized (e .role) (e .method) cl x kem d ks s (a .0 .method-ok) (cause-none z) .most in
+        let k = key-sized (e .role) (e .method) cl x kem kPq ks s (a .0 .method-ok) (cause-none z) .most in
+        let w = secret-short (e .role) (e .method) cl x kem kPq ks s (a .0 .method-ok) (cause-none z) in
         record {
           row = r;
           bounds = b;
@@ -138,14 +175,16 @@ module _ (e : Exchange) (room : List ℕ) (cl : Classical) (x : List ℕ) (kem :
           room-least = a .1;
           k-row = k;
           k-fits = omega (arith, r .k-most);
-          all-fits = all-most (rowOf (e .method)) (e .lens) r b (length (kOf (e .method) x d)) k;
+          all-fits = all-most (rowOf (e .method)) (e .lens) r b (length (kOf (e .method) x kPq)) k;
+          method-ok = a .0 .method-ok;
+          hash-fits = omega (arith, w .0, w .1);
         }
 
     -- and so are the lengths with K_S and S
-    pub server-fits : e .role ≡ server → ServerFits e x d ks s
+    pub server-fits : e .role ≡ server → ServerFits e x kPq ks s
     server-fits h =
         let f = secret-fits in
-        let o = own-formed (e .method) ks s (ap (λ (r : ℕ). ownOk r (rowOf (e .method)) ks s) (sym h) ∙ secret-known (e .role) (e .method) cl x kem d ks s (cause-none z) .3) in
+        let o = own-formed (e .method) ks s (ap (λ (r : ℕ). ownOk r (rowOf (e .method)) ks s) (sym h) ∙ secret-known (e .role) (e .method) cl x kem kPq ks s (cause-none z) .3) in
         let b : Bounded (rowOf (e .method)) (withS (e .lens) (length ks) (length s)) = record {
           vc = f .bounds .vc;
           vs = f .bounds .vs;
@@ -157,79 +196,90 @@ module _ (e : Exchange) (room : List ℕ) (cl : Classical) (x : List ℕ) (kem :
         } in
         record {
           sums = small (rowOf (e .method)) (withS (e .lens) (length ks) (length s)) (f .row) b;
-          all-fits = all-most (rowOf (e .method)) (withS (e .lens) (length ks) (length s)) (f .row) b (length (kOf (e .method) x d)) (f .k-row);
+          all-fits = all-most (rowOf (e .method)) (withS (e .lens) (length ks) (length s)) (f .row) b (length (kOf (e .method) x kPq)) (f .k-row);
         }
 
     -- the exchange, the counts and the room of an accepted step, by the role
-    taken-client : (e .role ≡ server → ⊥) → withStage e SecretDone (e .lens) (kRecord (kOf (e .method) x d)) ≡ taken e (secret cl x kem d ks s)
+    taken-client : (e .role ≡ server → ⊥) → withStage e SecretDone (e .lens) (kRecord (kOf (e .method) x kPq)) ≡ taken e (secret cl x kem kPq ks s)
     unfolding taken
     taken-client h = rw (ne-eqb (e .role) server h)
 
-    taken-server : e .role ≡ server → withStage e SecretDone (withS (e .lens) (length ks) (length s)) (kRecord (kOf (e .method) x d)) ≡ taken e (secret cl x kem d ks s)
+    taken-server : e .role ≡ server → withStage e SecretDone (withS (e .lens) (length ks) (length s)) (kRecord (kOf (e .method) x kPq)) ≡ taken e (secret cl x kem kPq ks s)
     unfolding taken
     taken-server h = rw (eq-eqb (e .role) server h)
 
-    count-is : (l : Lengths) (k : List ℕ) → withStage e SecretDone l k ≡ taken e (secret cl x kem d ks s)
-        → fieldsEnd l + length (kOf (e .method) x d) ≡ countOf e room (secret cl x kem d ks s)
+    count-is : (l : Lengths) (k : List ℕ) → withStage e SecretDone l k ≡ taken e (secret cl x kem kPq ks s)
+        → fieldsEnd l + length (kOf (e .method) x kPq) ≡ countOf e room (secret cl x kem kPq ks s)
     unfolding countOf
-    count-is l k t = ap (λ (y : Exchange). fieldsEnd (y .lens) + length (kOf (e .method) x d)) t
+    count-is l k t = ap (λ (y : Exchange). fieldsEnd (y .lens) + length (kOf (e .method) x kPq)) t
 
-    second-is : 0 ≡ secondOf e (secret cl x kem d ks s)
+    second-is : 0 ≡ secondOf e (secret cl x kem kPq ks s)
     unfolding secondOf
     second-is = refl
 
-    answer : (l : Lengths) (end len : ℕ) (bytes : List ℕ) → withStage e SecretDone l (kRecord (kOf (e .method) x d)) ≡ taken e (secret cl x kem d ks s)
-        → end ≡ fieldsEnd l → len ≡ length (kOf (e .method) x d) → bytes ≡ kRecord (kOf (e .method) x d)
-        → _≡_ {A = Step} (record { number = 0; count = end + len; second = 0; exchange = withStage e SecretDone l bytes }) (answered e room (secret cl x kem d ks s))
+    answer : (l : Lengths) (end len : ℕ) (bytes : List ℕ) → withStage e SecretDone l (kRecord (kOf (e .method) x kPq)) ≡ taken e (secret cl x kem kPq ks s)
+        → end ≡ fieldsEnd l → len ≡ length (kOf (e .method) x kPq) → bytes ≡ kRecord (kOf (e .method) x kPq)
+        → _≡_ {A = Step} (record { number = 0; count = end + len; second = 0; exchange = withStage e SecretDone l bytes }) (answered e room (secret cl x kem kPq ks s))
     answer l end len bytes t f g b =
-        let c : end + len ≡ countOf e room (secret cl x kem d ks s) = (λ i. f i + g i) ∙ count-is l (kRecord (kOf (e .method) x d)) t in
-        let y : withStage e SecretDone l bytes ≡ taken e (secret cl x kem d ks s) = ap (withStage e SecretDone l) b ∙ t in
-        (λ i. record { number = 0; count = c i; second = second-is i; exchange = y i }) ∙ step-accepted e room (secret cl x kem d ks s) z .0
+        let c : end + len ≡ countOf e room (secret cl x kem kPq ks s) = (λ i. f i + g i) ∙ count-is l (kRecord (kOf (e .method) x kPq)) t in
+        let y : withStage e SecretDone l bytes ≡ taken e (secret cl x kem kPq ks s) = ap (withStage e SecretDone l) b ∙ t in
+        (λ i. record { number = 0; count = c i; second = second-is i; exchange = y i }) ∙ step-accepted e room (secret cl x kem kPq ks s) z .0
 
-    filled-client : (e .role ≡ server → ⊥) → over room (fieldsEnd (e .lens)) (kOf (e .method) x d) ≡ filled e room (secret cl x kem d ks s)
+    -- the count, and H over as much of the room as it is left
+    told-is : (n : ℕ) (left : List ℕ) → n ≡ answered e room (secret cl x kem kPq ks s) .count → left ≡ roomAfter e room (secret cl x kem kPq ks s)
+        → n ∷ sized hSize (sha2 (rowOf (e .method) .«digest_len») (take n left)) ≡ tells e room (secret cl x kem kPq ks s)
+    unfolding tells
+    told-is n left c r =
+        let a = step-accepted e room (secret cl x kem kPq ks s) z in
+        let k = c ∙ ap (λ (y : Step). y .count) (sym (a .0)) in
+        let f = r ∙ sym (a .1) in
+        let h = (λ i. sized hSize (sha2 (rowOf (e .method) .«digest_len») (take (k i) (f i)))) ∙ handed-accepted e room (secret cl x kem kPq ks s) z in
+        λ i. c i ∷ h i
+
+    filled-client : (e .role ≡ server → ⊥) → over room (fieldsEnd (e .lens)) (kOf (e .method) x kPq) ≡ filled e room (secret cl x kem kPq ks s)
     unfolding filled
     filled-client h = rw (ne-eqb (e .role) server h)
 
     filled-server : e .role ≡ server
-        → over room (headEnd (e .lens)) (field ks ++ standingC (e .lens) room ++ field s ++ kOf (e .method) x d) ≡ filled e room (secret cl x kem d ks s)
+        → over room (headEnd (e .lens)) (field ks ++ standingC (e .lens) room ++ field s ++ kOf (e .method) x kPq) ≡ filled e room (secret cl x kem kPq ks s)
     unfolding filled
     filled-server h = rw (eq-eqb (e .role) server h)
 
     -- what a client answers and leaves
-    client-done : (e .role ≡ server → ⊥) → (end len : ℕ) (bytes src left : List ℕ) → end ≡ fieldsSize (e .lens) → len ≡ length (kOf (e .method) x d)
-        → bytes ≡ kRecord (kOf (e .method) x d) → src ≡ bytesAt bytes (inside (length bytes) (part 0 len)) → left ≡ laid room end src
-        → (_≡_ {A = Step} (record { number = 0; count = end + len; second = 0; exchange = withStage e SecretDone (e .lens) bytes }) (answered e room (secret cl x kem d ks s)))
-        × (left ≡ roomAfter e room (secret cl x kem d ks s))
+    client-done : (e .role ≡ server → ⊥) → (end len : ℕ) (bytes src left : List ℕ) → end ≡ fieldsSize (e .lens) → len ≡ length (kOf (e .method) x kPq)
+        → bytes ≡ kRecord (kOf (e .method) x kPq) → src ≡ bytesAt bytes (inside (length bytes) (part 0 len)) → left ≡ laid room end src
+        → (_≡_ {A = Step} (record { number = 0; count = end + len; second = 0; exchange = withStage e SecretDone (e .lens) bytes }) (answered e room (secret cl x kem kPq ks s)))
+        × (left ≡ roomAfter e room (secret cl x kem kPq ks s))
     client-done h end len bytes src left f₀ g b p w =
         let t = secret-fits in
         let f = f₀ ∙ fields-fits (e .lens) (t .sums) in
-        let k = key-part (kOf (e .method) x d) len bytes src (t .k-fits) g b p in (
+        let k = key-part (kOf (e .method) x kPq) len bytes src (t .k-fits) g b p in (
           answer (e .lens) end len bytes (taken-client h) f g b,
           w ∙ (λ i. laid room (f i) (k i))
-              ∙ laid-fits room (fieldsEnd (e .lens)) (kOf (e .method) x d) (omega (arith, t .room-least, t .all-fits))
+              ∙ laid-fits room (fieldsEnd (e .lens)) (kOf (e .method) x kPq) (omega (arith, t .room-least, t .all-fits))
               ∙ filled-client h
-              ∙ step-accepted e room (secret cl x kem d ks s) z .1,
+              ∙ step-accepted e room (secret cl x kem kPq ks s) z .1,
         )
 
     -- what a server answers and leaves
     server-done : e .role ≡ server → (start size end len : ℕ) (bytes src mid left : List ℕ) → start ≡ headSize (e .lens) → size ≡ fieldSize (e .lens .c)
-        → mid ≡ around room start size ks s → end ≡ fieldsSize (withS (e .lens) (length ks) (length s)) → len ≡ length (kOf (e .method) x d)
-        → bytes ≡ kRecord (kOf (e .method) x d) → src ≡ bytesAt bytes (inside (length bytes) (part 0 len)) → left ≡ laid mid end src
-        → (_≡_ {A = Step} (record { number = 0; count = end + len; second = 0; exchange = withStage e SecretDone (withS (e .lens) (length ks) (length s)) bytes }) (answered e room (secret cl x kem d ks s)))
-        × (left ≡ roomAfter e room (secret cl x kem d ks s))
+        → mid ≡ around room start size ks s → end ≡ fieldsSize (withS (e .lens) (length ks) (length s)) → len ≡ length (kOf (e .method) x kPq)
+        → bytes ≡ kRecord (kOf (e .method) x kPq) → src ≡ bytesAt bytes (inside (length bytes) (part 0 len)) → left ≡ laid mid end src
+        → (_≡_ {A = Step} (record { number = 0; count = end + len; second = 0; exchange = withStage e SecretDone (withS (e .lens) (length ks) (length s)) bytes }) (answered e room (secret cl x kem kPq ks s)))
+        × (left ≡ roomAfter e room (secret cl x kem kPq ks s))
     server-done h start size end len bytes src mid left a₀ c₀ m f₀ g b p w =
         let t = secret-fits in
         let u = server-fits h in
         let a = a₀ ∙ head-fits (e .lens) (t .sums) in
         let c = c₀ ∙ size-fits (e .lens .c) (t .sums .c) in
         let f = f₀ ∙ fields-fits (withS (e .lens) (length ks) (length s)) (u .sums) in
-        let k = key-part (kOf (e .method) x d) len bytes src (t .k-fits) g b p in
+        let k = key-part (kOf (e .method) x kPq) len bytes src (t .k-fits) g b p in
         let o : mid ≡ around room (headEnd (e .lens)) (fieldLength (e .lens .c)) ks s = m ∙ (λ i. around room (a i) (c i) ks s) in (
           answer (withS (e .lens) (length ks) (length s)) end len bytes (taken-server h) f g b,
           w ∙ (λ i. laid (o i) (f i) (k i))
-              ∙ room-server (e .lens) room ks s (kOf (e .method) x d) (omega (arith, t .room-least, u .all-fits))
+              ∙ room-server (e .lens) room ks s (kOf (e .method) x kPq) (omega (arith, t .room-least, u .all-fits))
               ∙ filled-server h
-              ∙ step-accepted e room (secret cl x kem d ks s) z .1,
+              ∙ step-accepted e room (secret cl x kem kPq ks s) z .1,
         )
 
 -- ---- on lent bytes
@@ -248,17 +298,17 @@ small-short l h = record {
 
 -- what the bytes of an exchange tell
 module _ (e : Exchange) (b : List ℕ) (h : b ≡ encoded e) (k : length (e .k) ≡ kSize) where
-  sized : length b ≡ exchangeSize
-  sized = ap length h ∙ fits-known (encoded e) (encoded-fits e k) .0
+  whole : length b ≡ exchangeSize
+  whole = ap length h ∙ fits-known (encoded e) (encoded-fits e k) .0
 
   lengths-there : Short (e .lens) → lengthsTold b ≡ e .lens
   unfolding decoded
   lengths-there f =
-      sym (size-taken b noLengths (lengthsIn b) sized) ∙ ap lengthsIn h ∙ ap (λ (y : Exchange). y .lens) (decoded-encoded e f)
+      sym (size-taken b noLengths (lengthsIn b) whole) ∙ ap lengthsIn h ∙ ap (λ (y : Exchange). y .lens) (decoded-encoded e f)
 
-module _ (b room : List ℕ) (cl : Classical) (x : List ℕ) (kem : Kem) (d ks s : List ℕ) (o : Opened b room (secret cl x kem d ks s)) where
+module _ (b room : List ℕ) (cl : Classical) (x : List ℕ) (kem : Kem) (kPq ks s : List ℕ) (o : Opened b room (secret cl x kem kPq ks s)) where
   abbrev q : Call
-  q = secret cl x kem d ks s
+  q = secret cl x kem kPq ks s
 
   -- what an accepted step has left, step by step: K_S and S joined or not, where K goes, K and its record
   pub record Joined (role end len : ℕ) (ex₁ room₁ bytes src left ex : List ℕ) : Type 0 where
@@ -266,21 +316,20 @@ module _ (b room : List ℕ) (cl : Classical) (x : List ℕ) (kem : Kem) (d ks s
     pub own : ex₁ ≡ cond (eqb role server) (bySize b (put16 (put16 (set b 1 4) 13 (length ks)) 17 (length s)) b) b
     pub own-room : room₁ ≡ cond (eqb role server) (around room (headSize (lengthsTold b)) (fieldSize (lengthsTold b .c)) ks s) room
     pub end-is : end ≡ fieldsSize (lengthsTold ex₁)
-    pub len-is : len ≡ length (kOf (decoded b .method) x d)
-    pub bytes-are : bytes ≡ kRecord (kOf (decoded b .method) x d)
+    pub len-is : len ≡ length (kOf (decoded b .method) x kPq)
+    pub bytes-are : bytes ≡ kRecord (kOf (decoded b .method) x kPq)
     pub src-is : src ≡ bytesAt bytes (inside (length bytes) (part 0 len))
     pub left-is : left ≡ laid room₁ end src
     pub ex-is : ex ≡ bySize ex₁ (laid (set ex₁ 1 4) 19 bytes) ex₁
 
   -- then all is as the step has it, and the count is small
   pub record Done (count : ℕ) (left ex : List ℕ) : Type 0 where
-    pub told : count ∷ [] ≡ tells (decoded b) room q
+    pub told : count ∷ sized hSize (sha2 (rowOf (decoded b .method) .«digest_len») (take count left)) ≡ tells (decoded b) room q
     pub room-is : left ≡ roomAfter (decoded b) room q
     pub ex-is : ex ≡ encoded (taken (decoded b) q)
 
   pub secret-done : (role end len : ℕ) (ex₁ room₁ bytes src left ex : List ℕ) → Joined role end len ex₁ room₁ bytes src left ex
       → Done (end + len) left ex × (end + len ≤ roomLeast)
-  unfolding tells
   secret-done role end len ex₁ room₁ bytes src left ex j = by-role (eqb role server) refl
     where
       e : Exchange
@@ -289,26 +338,26 @@ module _ (b room : List ℕ) (cl : Classical) (x : List ℕ) (kem : Kem) (d ks s
       z : number e room q ≡ 0
       z = o .accepts
 
-      fit : SecretFits e room x d
-      fit = secret-fits e room cl x kem d ks s z
+      fit : SecretFits e room x kPq
+      fit = secret-fits e room cl x kem kPq ks s z
 
       size : length bytes ≡ kSize
-      size = ap length (j .bytes-are) ∙ length-record (kOf (e .method) x d) (fit .k-fits)
+      size = ap length (j .bytes-are) ∙ length-record (kOf (e .method) x kPq) (fit .k-fits)
 
       by-role : (t : Bool) → eqb role server ≡ t → Done (end + len) left ex × (end + len ≤ roomLeast)
       by-role true w =
           let r : e .role ≡ server = sym (role-read b role (j .role-is)) ∙ eqb-true role server w in
-          let u = server-fits e room cl x kem d ks s z r in
+          let u = server-fits e room cl x kem kPq ks s z r in
           let l = withS (e .lens) (length ks) (length s) in
           let e₁ = withStage e SecretDone l (e .k) in
           let a = s-changed b room q o SecretDone (length ks) (length s) ex₁ refl (j .own ∙ rw w) in
           let g = j .end-is ∙ ap fieldsSize (lengths-there e₁ ex₁ a (o .k-size) (small-short l (u .sums))) in
-          let c = k-changed e₁ SecretDone bytes ex₁ ex refl (o .k-size) size a (sized e₁ ex₁ a (o .k-size)) (j .ex-is) in
-          let f = server-done e room cl x kem d ks s z r _ _ end len bytes src room₁ left (ap headSize (o .lens-are)) (ap (λ (y : Lengths). fieldSize (y .c)) (o .lens-are)) (j .own-room ∙ rw w) g (j .len-is) (j .bytes-are) (j .src-is) (j .left-is) in (
+          let c = k-changed e₁ SecretDone bytes ex₁ ex refl (o .k-size) size a (whole e₁ ex₁ a (o .k-size)) (j .ex-is) in
+          let f = server-done e room cl x kem kPq ks s z r _ _ end len bytes src room₁ left (ap headSize (o .lens-are)) (ap (λ (y : Lengths). fieldSize (y .c)) (o .lens-are)) (j .own-room ∙ rw w) g (j .len-is) (j .bytes-are) (j .src-is) (j .left-is) in (
             record {
-              told = ap counts (f .0);
+              told = told-is e room cl x kem kPq ks s z (end + len) left (ap (λ (y : Step). y .count) (f .0)) (f .1);
               room-is = f .1;
-              ex-is = c ∙ ap (λ (k : List ℕ). encoded (withStage e SecretDone l k)) (j .bytes-are) ∙ ap encoded (taken-server e room cl x kem d ks s z r);
+              ex-is = c ∙ ap (λ (k : List ℕ). encoded (withStage e SecretDone l k)) (j .bytes-are) ∙ ap encoded (taken-server e room cl x kem kPq ks s z r);
             },
             omega (arith, g ∙ fields-fits l (u .sums), j .len-is, u .all-fits),
           )
@@ -316,14 +365,14 @@ module _ (b room : List ℕ) (cl : Classical) (x : List ℕ) (kem : Kem) (d ks s
           let r : e .role ≡ server → ⊥ = λ h. eqb-false role server w (role-read b role (j .role-is) ∙ h) in
           let a : ex₁ ≡ encoded e = j .own ∙ rw w (o .bytes-are) in
           let g = j .end-is ∙ ap fieldsSize (lengths-there e ex₁ a (o .k-size) (small-short (e .lens) (fit .sums))) in
-          let c = k-changed e SecretDone bytes ex₁ ex (o .no-fail) (o .k-size) size a (sized e ex₁ a (o .k-size)) (j .ex-is) in
+          let c = k-changed e SecretDone bytes ex₁ ex (o .no-fail) (o .k-size) size a (whole e ex₁ a (o .k-size)) (j .ex-is) in
           let n : room₁ ≡ room = j .own-room ∙ rw w in
           let m = j .left-is ∙ ap (λ (y : List ℕ). laid y end src) n in
-          let f = client-done e room cl x kem d ks s z r end len bytes src left g (j .len-is) (j .bytes-are) (j .src-is) m in (
+          let f = client-done e room cl x kem kPq ks s z r end len bytes src left g (j .len-is) (j .bytes-are) (j .src-is) m in (
             record {
-              told = ap counts (f .0);
+              told = told-is e room cl x kem kPq ks s z (end + len) left (ap (λ (y : Step). y .count) (f .0)) (f .1);
               room-is = f .1;
-              ex-is = c ∙ ap (λ (k : List ℕ). encoded (withStage e SecretDone (e .lens) k)) (j .bytes-are) ∙ ap encoded (taken-client e room cl x kem d ks s z r);
+              ex-is = c ∙ ap (λ (k : List ℕ). encoded (withStage e SecretDone (e .lens) k)) (j .bytes-are) ∙ ap encoded (taken-client e room cl x kem kPq ks s z r);
             },
             omega (arith, g ∙ fields-fits (e .lens) (fit .sums), j .len-is, fit .all-fits),
           )

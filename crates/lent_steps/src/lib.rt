@@ -3,16 +3,24 @@
 // bytes that no exchange has.
 use exchange::Classical;
 use exchange::Kem;
+use methods::KForm;
+use secret::Secret;
 use wire::Part;
+ghost use Prim.Native.Nat.{_+_, _≤_};
 ghost use mathlib.Core.Path.{_≡_};
 ghost use mathlib.Core.List.{[], _∷_, _++_};
-ghost use mathlib.Core.Bool.{cond};
+ghost use mathlib.Core.Bool.{true, cond};
 ghost use lib.Dec.{eqb};
-ghost use lib.ListN.{length, set};
-ghost use Rattle.limits.specs.Limits.{server};
-ghost use Rattle.buffers.specs.Bytes.{onto};
+ghost use lib.ListN.{length, take, set};
+ghost use Rattle.limits.specs.Limits.{hSize, hashMost, server};
+ghost use Rattle.buffers.specs.Bytes.{onto, laid};
+ghost use Rattle.wire.specs.Parts.{part, inside, bytesAt};
+ghost use Rattle.sha_words.specs.Message.{sha2, sized};
+ghost use Rattle.methods.specs.Rows.{rowOf};
+ghost use Rattle.secret.specs.Secret.{kept};
 ghost use Rattle.transcript.specs.Fields.{field, fieldSize, around};
-ghost use Rattle.exchange.specs.Steps.{HeadFits, headSize, secret as secretStep};
+ghost use Rattle.exchange.specs.Causes.{methodOk, kOf};
+ghost use Rattle.exchange.specs.Steps.{HeadFits, headSize, fieldsSize, secret as secretStep};
 ghost use Rattle.stored.specs.Stored.{bySize, lengthsTold};
 ghost use Rattle.changes.specs.Changes.{put16};
 ghost use Rattle.lent.specs.Lent.{left, lentCall, lentStart};
@@ -80,39 +88,84 @@ fn join_own(ex: &mut [u8], room: &mut [u8], role: u8, ks: &[u8], s: &[u8])
     lent::with_s(ex, room, stored::SECRET_DONE, ks, s);
 }
 
-// The secret: K joins the room and the exchange. Told: the hash input's count.
+// K in the method's form. Only a hybrid's is by the hash, of K_PQ and then X: K of a number has no digest to look at.
+fn key_of(method: u8, x: &[u8], k_pq: &[u8]) -> Secret
+    requires { ⌜ (methodOk method ≡ true) × (length (now «k_pq») + length (now x) ≤ hashMost) ⌝ }
+    ensures { λ r. ⌜ r ≡ kept (kOf method (now (x .entry)) (now («k_pq» .entry))) ⌝ }
+{
+    let form = methods::k_form(method);
+    let KForm::Digest = form else {
+        return secret::k_of(form, x, k_pq);
+    };
+    let len = methods::digest_len(method);
+    let d = sha2::hash_of(len, k_pq, x);
+    let bytes = d.bytes;
+    secret::k_of(form, x, wire::part_of(&bytes, Part { start: 0, len }))
+}
+
+// K joins the room behind the other fields, and the exchange. Answers where K begins.
+fn join_key(ex: &mut [u8], room: &mut [u8], key: Secret) -> usize
+    ensures { λ end.
+        let b = now (ex .entry) in
+        ⌜ (end ≡ fieldsSize (lengthsTold b)) × (now (room .exit) ≡ laid (now (room .entry)) end (bytesAt (key .bytes) (inside (length (key .bytes)) (part 0 (key .len))))) × (now (ex .exit) ≡ bySize b (laid (set b 1 4) 19 (key .bytes)) b) ⌝ }
+{
+    let bytes = key.bytes;
+    let len = key.len;
+    let l = stored::lengths_in(ex);
+    let end = lent::fields_end(l);
+    buffers::put_bytes(room, end, wire::part_of(&bytes, Part { start: 0, len }));
+    changes::put_k(ex, stored::SECRET_DONE, &bytes);
+    end
+}
+
+// H with zeros after it: the method's hash of the room's first n bytes.
+fn h_of(method: u8, room: &[u8], n: usize) -> [u8; limits::H_SIZE]
+    requires { ⌜ (methodOk method ≡ true) × (n ≤ length (now room)) × (n ≤ hashMost) ⌝ }
+    ensures { λ r. ⌜ r ≡ sized hSize (sha2 (rowOf method .«digest_len») (take n (now (room .entry)))) ⌝ }
+{
+    let d = sha2::hash_of(methods::digest_len(method), &room[..n], &room[..0]);
+    d.bytes
+}
+
+// What an accepted step tells: the hash input's count, and H.
+fn tell(method: u8, room: &[u8], n: usize, count: &mut u64, h: &mut [u8; limits::H_SIZE])
+    requires { ⌜ (methodOk method ≡ true) × (n ≤ length (now room)) × (n ≤ hashMost) ⌝ }
+    ensures { λ _. ⌜ now (count .exit) ∷ now (h .exit) ≡ n ∷ sized hSize (sha2 (rowOf method .«digest_len») (take n (now (room .entry)))) ⌝ }
+{
+    *count = n as u64;
+    *h = h_of(method, room, n);
+}
+
+// The secret: K joins the room and the exchange. Told: the hash input's count, and H; zeros on a refusal.
 pub fn take_secret(
     ex: &mut [u8],
     room: &mut [u8],
     cl: Classical,
     x: &[u8],
     kem: Kem,
-    digest: &[u8],
+    k_pq: &[u8],
     ks: &[u8],
     s: &[u8],
     count: &mut u64,
+    h: &mut [u8; limits::H_SIZE],
 ) -> u8
     ensures { λ n.
-        let q = secretStep cl (now (x .entry)) kem (now (digest .entry)) (now (ks .entry)) (now (s .entry)) in
-        ⌜ left n (now (count .exit) ∷ []) (now (ex .exit)) (now (room .exit)) [] ≡ lentCall (now (ex .entry)) (now (room .entry)) q [] ⌝ }
+        let q = secretStep cl (now (x .entry)) kem (now («k_pq» .entry)) (now (ks .entry)) (now (s .entry)) in
+        ⌜ left n (now (count .exit) ∷ now (h .exit)) (now (ex .exit)) (now (room .exit)) [] ≡ lentCall (now (ex .entry)) (now (room .entry)) q [] ⌝ }
 {
     *count = 0;
+    *h = [0u8; limits::H_SIZE];
     let role = stored::byte_in(ex, stored::ROLE_AT);
     let method = stored::byte_in(ex, stored::METHOD_AT);
-    let fed = judge_secret::secret_cause(role, method, cl, x, kem, digest, ks, s);
+    let fed = judge_secret::secret_cause(role, method, cl, x, kem, k_pq, ks, s);
     let n = due::step_number(4, ex, room.len(), fed);
     if n != 0 {
         return lent::refuse(n, ex, room);
     }
-    let form = methods::k_form(method);
-    let key = secret::k_of(form, x, digest);
-    let bytes = key.bytes;
+    let key = key_of(method, x, k_pq);
     let len = key.len;
     join_own(ex, room, role, ks, s);
-    let l = stored::lengths_in(ex);
-    let end = lent::fields_end(l);
-    buffers::put_bytes(room, end, wire::part_of(&bytes, Part { start: 0, len }));
-    changes::put_k(ex, stored::SECRET_DONE, &bytes);
-    *count = (end + len) as u64;
+    let end = join_key(ex, room, key);
+    tell(method, room, end + len, count, h);
     0
 }

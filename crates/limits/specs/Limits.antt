@@ -68,7 +68,7 @@ exchangeMark = 1
 
 -- the boundary's own number, which the header repeats
 abbrev pub libraryVersion : ℕ
-libraryVersion = 2
+libraryVersion = 3
 
 -- the room, document 01's word for the buffer that is lent for the hash input: at least 32 + 506 + 8,192 + 2,048 + 3,330 + 48 bytes
 abbrev pub roomLeast : ℕ

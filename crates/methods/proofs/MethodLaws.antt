@@ -15,6 +15,7 @@ use Rattle.buffers.specs.Bytes.{same}
 use Rattle.limits.proofs.BoolLaws.{and-true}
 use Rattle.limits.specs.Limits.{versionMost, kexinitMost, blobMost, kSize, roomLeast, methodLast}
 use Rattle.limits.specs.Every.{every}
+use Rattle.sha_words.specs.Constants.{known}
 use Rattle.methods.specs.Rows.{hybrid, rows, noRow, nameOf, rowIn, named, rowOf, numberOf, kMost}
 use Rattle.methods.specs.Sound.{Sound}
 use Rattle.methods.specs.declared.Method.{Method}
@@ -128,6 +129,7 @@ sound n h k = record {
   x-most = leb-true _ _ (rule (λ r. leb (r .«x_len») 66) refl n h k);
   digest-least = leb-true _ _ (rule (λ r. leb 32 (r .«digest_len»)) refl n h k);
   digest-most = leb-true _ _ (rule (λ r. leb (r .«digest_len») 64) refl n h k);
+  digest-kind = rule (λ r. known (r .«digest_len»)) refl n h k;
   k-most = leb-true _ _ (rule (λ r. leb (4 + kMost r) kSize) refl n h k);
   all-most = leb-true _ _ (rule (λ r. leb (32 + 2 * versionMost + 2 * kexinitMost + blobMost + r .c .len + r .s .len + kMost r) roomLeast) refl n h k);
   c-point = is-eq _ _ (rule (λ r. cond (r .c .point) (leb 4 (r .number) && leb (r .number) 8) (cond (leb 4 (r .number) && leb (r .number) 8) false true)) refl n h k);

@@ -1,10 +1,11 @@
 -- What the table of methods has in common, row by row: bounds that the sizes rest on, and what its columns say of one another. Assumes nothing.
 use Prim.Native.Nat.{_+_, _*_, _≤_, _<_}
 use mathlib.Core.Path.{_≡_}
-use mathlib.Core.Bool.{cond, _&&_}
+use mathlib.Core.Bool.{true, cond, _&&_}
 use lib.ListN.{length}
 use lib.Dec.{leb}
 use Rattle.limits.specs.Limits.{versionMost, kexinitMost, blobMost, kSize, roomLeast}
+use Rattle.sha_words.specs.Constants.{known}
 use Rattle.methods.specs.Rows.{hybrid, kMost}
 use Rattle.methods.specs.declared.Method.{Method}
 
@@ -22,6 +23,8 @@ pub record Sound (r : Method) : Type 0 where
   pub x-most : r .«x_len» ≤ 66
   pub digest-least : 32 ≤ r .«digest_len»
   pub digest-most : r .«digest_len» ≤ 64
+  -- the digest is one of SHA-2's
+  pub digest-kind : known (r .«digest_len») ≡ true
   -- K fits its record, four length bytes included
   pub k-most : 4 + kMost r ≤ kSize
   -- eight lengths, both V, both I, K_S, C, S and K's body at their longest fit the least room

@@ -1,12 +1,13 @@
 // The steps that both roles take, by value: the start and the secret. Each hands back its number, its counts and the exchange as it now
-// is: the step on lent bytes, on bytes of its own.
+// is, the secret H too: the step on lent bytes, on bytes of its own.
 use exchange::Classical;
 use exchange::Exchange;
 use exchange::Kem;
+use exchange::SecretStep;
 use exchange::Step;
 ghost use mathlib.Core.Path.{_≡_};
 ghost use lib.ListN.{length};
-ghost use Rattle.exchange.specs.Steps.{secret as secretStep, answered, roomAfter, started, startedRoom};
+ghost use Rattle.exchange.specs.Steps.{secret as secretStep, secretAnswered, roomAfter, started, startedRoom};
 
 // Starts an exchange: 2, 3, 4, or both V and both I go into the room.
 pub fn start(
@@ -25,26 +26,29 @@ pub fn start(
     by_value::answer(n, 0, 0, &b)
 }
 
-// Both roles, the secret: K joins the room and the record; a server's K_S and S join with it.
+// Both roles, the secret: K joins the room and the record; a server's K_S and S join with it. H is handed out, zeros on a refusal.
 pub fn take_secret(
     e: Exchange,
     room: &mut [u8],
     cl: Classical,
     x: &[u8],
     kem: Kem,
-    digest: &[u8],
+    k_pq: &[u8],
     ks: &[u8],
     s: &[u8],
-) -> Step
+) -> SecretStep
     ensures { λ r.
-        let q = secretStep cl (now (x .entry)) kem (now (digest .entry)) (now (ks .entry)) (now (s .entry)) in
-        ⌜ (r ≡ answered e (now (room .entry)) q) × (now (room .exit) ≡ roomAfter e (now (room .entry)) q) ⌝ }
+        let q = secretStep cl (now (x .entry)) kem (now («k_pq» .entry)) (now (ks .entry)) (now (s .entry)) in
+        ⌜ (r ≡ secretAnswered e (now (room .entry)) q) × (now (room .exit) ≡ roomAfter e (now (room .entry)) q) ⌝ }
 {
     let mut b = [0u8; limits::EXCHANGE_SIZE];
+    let mut h = [0u8; limits::H_SIZE];
     if !by_value::lay(&mut b, e) {
-        return by_value::not_due(e);
+        let step = by_value::not_due(e);
+        return SecretStep { step, h };
     }
     let mut count = 0u64;
-    let n = lent_steps::take_secret(&mut b, room, cl, x, kem, digest, ks, s, &mut count);
-    by_value::answer(n, count, 0, &b)
+    let n = lent_steps::take_secret(&mut b, room, cl, x, kem, k_pq, ks, s, &mut count, &mut h);
+    let step = by_value::answer(n, count, 0, &b);
+    SecretStep { step, h }
 }

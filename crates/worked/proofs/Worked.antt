@@ -89,7 +89,7 @@ module _ (o : Blanks) where
 
 pub worked : (o : Blanks) → map (λ (e : Example). e .found) (examples o) ≡ map (λ (e : Example). e .stated) (examples o)
 unfolding shortest string whole readString readMpint rows rowOf secretCause restOk causeUnless causeIf reply
-worked o = rw (low-is o, lower-is o, needed (o .r), o .r-length, o .digest-length, cut-reply o)
+worked o = rw (low-is o, lower-is o, needed (o .r), o .r-length, o .kPq-length, cut-reply o)
 
 -- there is such a blanks, so the table is not about nothing
 pub blanks : Blanks
@@ -104,8 +104,8 @@ blanks = record {
   lower = 0xff ∷ 0x7f ∷ [];
   lower-bytes = bytes-cons 0xff (0x7f ∷ []) (omega arith) (bytes-cons 0x7f [] (omega arith) none);
   lower-value = refl;
-  digest = zeros 32;
-  digest-length = refl;
+  kPq = zeros 32;
+  kPq-length = refl;
   method = 4;
   ks = 1 ∷ [];
   s = 2 ∷ [];

@@ -28,7 +28,7 @@ pub record Example : Type 0 where
   pub found : Result
   pub stated : Result
 
--- what the examples leave open: the digest in P3; the other bytes of X, 31 in P4 and P5 and 30 in P6 and P7; the two's complement bytes
+-- what the examples leave open: K_PQ in P3; the other bytes of X, 31 in P4 and P5 and 30 in P6 and P7; the two's complement bytes
 -- that stand for -128 and for -129; in P12 the method, K_S, S and what is left of the third length
 pub record Blanks : Type 0 where
   pub b : ℕ
@@ -40,8 +40,8 @@ pub record Blanks : Type 0 where
   pub lower : List ℕ
   pub lower-bytes : Bytes lower
   pub lower-value : value lower ≡ negsuc 128
-  pub digest : List ℕ
-  pub digest-length : length digest ≡ 32
+  pub kPq : List ℕ
+  pub kPq-length : length kPq ≡ 32
   pub method : ℕ
   pub ks : List ℕ
   pub s : List ℕ
@@ -65,7 +65,7 @@ examples o =
     ∷ record { found = bytes (kIn 4 (zeros 32)); stated = bytes (0 ∷ 0 ∷ 0 ∷ 0 ∷ []) }
     -- P3: X of 32 zero bytes, methods 1 and 9
     ∷ record { found = refused (secretCause client 1 (Given 32) (zeros 32) Absent [] [] []); stated = refused 16 }
-    ∷ record { found = refused (secretCause client 9 (Given 32) (zeros 32) Done (o .digest) [] []); stated = refused 16 }
+    ∷ record { found = refused (secretCause client 9 (Given 32) (zeros 32) Done (o .kPq) [] []); stated = refused 16 }
     -- P4: first byte 7f
     ∷ record { found = bodyIs 1 (kIn 4 (0x7f ∷ o .b ∷ o .r)); stated = body 32 (0x7f ∷ []) }
     -- P5: first byte 80

@@ -34,9 +34,9 @@ same-length-2 c = search needs
 
 returns : tie.Need-returns
 returns c =
-    let a = c .before .before .before .before .before .before .before .before .before .before .before .before .before .before .before .before .before .before .args in
-    let k = c .before .before .before .before .before .before .before .before .kem-of .ensures ∙ ap (λ (m : ℕ). kemOf m (a .kem)) (method-read (now (a .ex)) _ (c .before .before .before .before .before .before .before .before .before .byte-in .ensures)) in
-    c .before .before .before .before .take-secret .ensures ∙ (λ i. lentCall (now (a .ex)) (now (a .room)) (secret (c .before .before .before .before .before .before .before .before .before .before .before .classical-of .ensures i) (now (a .x)) (k i) (now (a .digest)) (now (a .ks)) (now (a .s))) [])
+    let a = c .before .before .before .before .before .before .before .before .before .before .before .before .before .before .before .before .before .before .before .args in
+    let k = c .before .before .before .before .before .before .before .before .before .kem-of .ensures ∙ ap (λ (m : ℕ). kemOf m (a .kem)) (method-read (now (a .ex)) _ (c .before .before .before .before .before .before .before .before .before .before .byte-in .ensures)) in
+    c .before .before .before .before .take-secret .ensures ∙ (λ i. lentCall (now (a .ex)) (now (a .room)) (secret (c .before .before .before .before .before .before .before .before .before .before .before .before .classical-of .ensures i) (now (a .x)) (k i) (now (a .k-pq)) (now (a .ks)) (now (a .s))) [])
 
 pub castulfrisa-take-secret-spec : {M : Type 1} → statement M
 castulfrisa-take-secret-spec =

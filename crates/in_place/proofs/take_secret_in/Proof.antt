@@ -37,20 +37,20 @@ use denote.Triple.Table.{entered, cited}
 use denote.Triple.Walked.{says, Stays, stay-ref, stay-dropped, gave-slice, walkOf, goes-ref, goes-dropped, goes-gave-slice, Walks, ends-at, walked, walk-meets}
 use denote.Exit.{yes}
 use denote.Signature.{plain, shrSliceOf}
-use Rattle.exchange.specs.declared.Step.{Step}
-use Rattle.exchange.specs.Steps.{Call, secret, answered, roomAfter}
-use Rattle.in_place.specs.InPlace.{countsOf}
+use Rattle.exchange.specs.declared.SecretStep.{SecretStep}
+use Rattle.exchange.specs.Steps.{Call, secret, secretAnswered, roomAfter}
+use Rattle.in_place.specs.InPlace.{secretCountsOf}
 use Rattle.exchange.proofs.Exchange as X
 use Rattle.exchange.proofs.Exchange.Laws as X′
 use Rattle.exchange.proofs.Classical as Cl
 use Rattle.exchange.proofs.Classical.Laws as Cl′
 use Rattle.exchange.proofs.Kem as Ke
 use Rattle.exchange.proofs.Kem.Laws as Ke′
-use Rattle.exchange.proofs.Step as S
-use Rattle.exchange.proofs.Step.Laws as S′
-use Rattle.in_place.proofs.Counts as R
-use Rattle.in_place.proofs.Counts.Laws as R′
-use Rattle.in_place.proofs.Lent.{mach, mach-r, answers, Lent, asked, handed, opened, closed, returned}
+use Rattle.exchange.proofs.SecretStep as S
+use Rattle.exchange.proofs.SecretStep.Laws as S′
+use Rattle.in_place.proofs.SecretCounts as R
+use Rattle.in_place.proofs.SecretCounts.Laws as R′
+use Rattle.in_place.proofs.Lent.{mach, mach-q, leaves, secret-answers, Lent, asked, handed, opened, closed, returned}
 use Rattle.steps.proofs.take_secret as step
 use Rattle.steps.proofs.take_secret.Symbol as step-def
 use Rattle.steps.proofs.take_secret.Met as step-thm
@@ -92,20 +92,21 @@ module _ {M : Type 1} (𝓤 : URA M) (H : Heap 𝓤) (A : Atoms 𝓤) (W : Given
   abbrev last : Last → Fml
   last = lasts step.ended κs a
 
-  abbrev Said : Step → Last → Type 0
-  Said r zs = let q : Call = secret (a .1 .1 .0) (a .1 .1 .1 .0 .now) (a .1 .1 .1 .1 .0) (a .1 .1 .1 .1 .1 .0 .now) (a .1 .1 .1 .1 .1 .1 .0 .now) (a .1 .1 .1 .1 .1 .1 .1 .0 .now) in (r ≡ answered (a .0) (a .1 .0 .now) q) × (zs .1 .0 ≡ roomAfter (a .0) (a .1 .0 .now) q)
+  abbrev Said : SecretStep → Last → Type 0
+  Said r zs = let q : Call = secret (a .1 .1 .0) (a .1 .1 .1 .0 .now) (a .1 .1 .1 .1 .0) (a .1 .1 .1 .1 .1 .0 .now) (a .1 .1 .1 .1 .1 .1 .0 .now) (a .1 .1 .1 .1 .1 .1 .1 .0 .now) in (r ≡ secretAnswered (a .0) (a .1 .0 .now) q) × (zs .1 .0 ≡ roomAfter (a .0) (a .1 .0 .now) q)
 
   abbrev back : Val → Item 𝓤
   back w = handed Toks (λ r. S.the-row .own r (w ∷ [])) last Said
 
-  exits : (r : Step) (zs : Last) → Said r zs → Is R.the-row (countsOf r) (mach-r (countsOf r) ∷ []) → ent 𝓤 (⋆ 𝓤 H A (‵ (Lent κ γ (r .exchange) b o) ∷ ‵ (flft κ q) ∷ ‵ (last zs) ∷ Toks ∷ [])) (Post (mach-r (countsOf r)))
+  exits : (r : SecretStep) (zs : Last) → Said r zs → Is R.the-row (secretCountsOf r) (mach-q (secretCountsOf r) ∷ []) → ent 𝓤 (⋆ 𝓤 H A (‵ (Lent κ γ (r .step .exchange) b o) ∷ ‵ (flft κ q) ∷ ‵ (last zs) ∷ Toks ∷ [])) (Post (mach-q (secretCountsOf r)))
+  unfolding secretAnswered
   exits r zs told is =
-      qed W (‵ (Lent κ γ (r .exchange) b o) ∷ ‵ (flft κ q) ∷ ‵ (last zs) ∷ Toks ∷ []) ∵
+      qed W (‵ (Lent κ γ (r .step .exchange) b o) ∷ ‵ (flft κ q) ∷ ‵ (last zs) ∷ Toks ∷ []) ∵
       move ! (2 ∷ []) $ fsplit ! $ drop ! $ fsplit ! $ fsplit ! $ move ! (1 ∷ []) $ feqL ! (λ l.
-      suffices ! _ (ends-at 𝓤 H A f.ended stayed (f.clauses 𝓤 H A mem run) W y (mach-r (countsOf r)) (countsOf r) (r .exchange, (zs .1 .0, (tt, (tt, (tt, (tt, (tt, (tt, tt)))))))) (tt, (l, (tt, (tt, (tt, (tt, (tt, (tt, tt))))))))) $
-      says ! (ap countsOf (told .0), ap (λ (z : Step). z .exchange) (told .0), told .1) $
+      suffices ! _ (ends-at 𝓤 H A f.ended stayed (f.clauses 𝓤 H A mem run) W y (mach-q (secretCountsOf r)) (secretCountsOf r) (r .step .exchange, (zs .1 .0, (tt, (tt, (tt, (tt, (tt, (tt, tt)))))))) (tt, (l, (tt, (tt, (tt, (tt, (tt, (tt, tt))))))))) $
+      says ! (ap secretCountsOf (told .0), ap (λ (z : SecretStep). z .step .exchange) (told .0), told .1) $
       move ! (3 ∷ 4 ∷ []) $ join ! $ frame ! $ fjoin ! $ move ! (1 ∷ 0 ∷ []) $ fjoin ! $
-      owned ! R.the-row (Is R.the-row) (LL.makes R.the-type R′.the-plain 𝓤 H A) (countsOf r) _ is $ move ! (1 ∷ 0 ∷ []) $ done !)
+      owned ! R.the-row (Is R.the-row) (LL.makes R.the-type R′.the-plain 𝓤 H A) (secretCountsOf r) _ is $ move ! (1 ∷ 0 ∷ []) $ done !)
 
   module _ (C : Calls 𝓤 H) (Λ : Loops 𝓤 H) (fm : FmC 𝓤 H (W .laws) C) (met : Triple 𝓤 (C step-def.name) (ByValue 𝓤 H A mem run)) where
     known : ent 𝓤 (mean 𝓤 H A (asked Toks (a .0) rest)) (C step-def.name (mach (a .0) ∷ s (a .1 .0) ∷ EL.val Cl.the-type Cl′.the-laws (a .1 .1 .0) ∷ s (a .1 .1 .1 .0) ∷ EL.val Ke.the-type Ke′.the-laws (a .1 .1 .1 .1 .0) ∷ s (a .1 .1 .1 .1 .1 .0) ∷ s (a .1 .1 .1 .1 .1 .1 .0) ∷ s (a .1 .1 .1 .1 .1 .1 .1 .0) ∷ []) (λ w. mean 𝓤 H A (back w)))
@@ -128,14 +129,13 @@ module _ {M : Type 1} (𝓤 : URA M) (H : Heap 𝓤) (A : Atoms 𝓤) (W : Given
         returned ! tt Toks (λ r. S.the-row .own r (w ∷ [])) last Said (λ r zs e. facts ! S.the-row (Is S.the-row) (shows 𝓤 H A S.the-row) r (w ∷ []) (λ is.
         -- [what is said of last values; the tokens; the cell; the open borrow; obs; auth; the locals]
         land ! (from ! (stop !)) (init ! 12 refl (LL.lawful S.the-type S′.the-laws 𝓤 H A W .typed r _ is .0)) $ rewrite ! 12 (λ (u : Val). ‵ (fat fullShare S′.mir l9 0 u)) (ap only (LL.tells S.the-type S′.the-laws r _ is)) refl $
-        let fields = LL.owed S.the-type S′.the-laws r _ is in
-        assigns ! (of-opd ! (load ! (from ! (fld ! refl (stop !))) (look-in ! 12 (sub ! 3 refl (whole !))))) (from ! (hop ! (look ! 28 refl) (stop !))) (store-raw ! 2 refl (LL.lawful X.the-type X′.the-laws 𝓤 H A W .typed (r .exchange) _ (fields .1 .1 .1 .0) .0)) $
-        assigns ! (agg ! (and-then ! (load ! (from ! (fld ! refl (stop !))) (look-in ! 12 (sub ! 0 refl (whole !)))) (and-then ! (load ! (from ! (fld ! refl (stop !))) (look-in ! 12 (sub ! 1 refl (whole !)))) (and-then ! (load ! (from ! (fld ! refl (stop !))) (look-in ! 12 (sub ! 2 refl (whole !)))) (no-more !)))))
-        (from ! (stop !)) (init ! 30 refl (LL.lawful R.the-type R′.the-laws 𝓤 H A W .typed (countsOf r) _ (answers r w is) .0)) $
-        move ! (2 ∷ 3 ∷ 4 ∷ 5 ∷ []) $ closed ! tt (r .exchange) b o (fields .1 .1 .1 .0) $
+        assigns ! (of-opd ! (load ! (from ! (fld ! refl (fld ! refl (stop !)))) (look-in ! 12 (sub ! 3 refl (sub ! 0 refl (whole !)))))) (from ! (hop ! (look ! 28 refl) (stop !))) (store-raw ! 2 refl (LL.lawful X.the-type X′.the-laws 𝓤 H A W .typed (r .step .exchange) _ (leaves r w is) .0)) $
+        assigns ! (agg ! (and-then ! (load ! (from ! (fld ! refl (fld ! refl (stop !)))) (look-in ! 12 (sub ! 0 refl (sub ! 0 refl (whole !))))) (and-then ! (load ! (from ! (fld ! refl (fld ! refl (stop !)))) (look-in ! 12 (sub ! 1 refl (sub ! 0 refl (whole !))))) (and-then ! (load ! (from ! (fld ! refl (fld ! refl (stop !)))) (look-in ! 12 (sub ! 2 refl (sub ! 0 refl (whole !))))) (and-then ! (load ! (from ! (fld ! refl (stop !))) (look-in ! 12 (sub ! 1 refl (whole !)))) (no-more !))))))
+        (from ! (stop !)) (init ! 30 refl (LL.lawful R.the-type R′.the-laws 𝓤 H A W .typed (secretCountsOf r) _ (secret-answers r w is) .0)) $
+        move ! (2 ∷ 3 ∷ 4 ∷ 5 ∷ []) $ closed ! tt (r .step .exchange) b o (leaves r w is) $
         returns ! (look ! 28 refl) $ forget ! 4 refl $ forget ! 6 refl $ forget ! 8 refl $ forget ! 10 refl $ forget ! 12 refl $ forget ! 14 refl $ forget ! 16 refl $ forget ! 18 refl $ forget ! 20 refl $ forget ! 22 refl $ forget ! 24 refl $ forget ! 26 refl $ forget ! 28 refl $
         move ! (28 ∷ 29 ∷ []) $ free1 ! $ move ! (26 ∷ 27 ∷ []) $ free1 ! $ move ! (24 ∷ 25 ∷ []) $ free1 ! $ move ! (22 ∷ 23 ∷ []) $ free1 ! $ move ! (20 ∷ 21 ∷ []) $ free1 ! $ move ! (18 ∷ 19 ∷ []) $ free1 ! $ move ! (16 ∷ 17 ∷ []) $ free1 ! $ move ! (14 ∷ 15 ∷ []) $ free1 ! $ move ! (12 ∷ 13 ∷ []) $ free1 ! $ move ! (10 ∷ 11 ∷ []) $ free1 ! $ move ! (8 ∷ 9 ∷ []) $ free1 ! $ move ! (6 ∷ 7 ∷ []) $ free1 ! $ move ! (4 ∷ 5 ∷ []) $ free1 ! $ free0 ! $
-        by ! (exits r zs e (answers r w is)))))))))))))))))))
+        by ! (exits r zs e (secret-answers r w is)))))))))))))))))))
 
 module _ {M : Type 1} (𝓤 : URA M) (H : Heap 𝓤) (A : Atoms 𝓤) (W : Given 𝓤 H A) (mem : Memory → SProp 𝓤) (run : Routine → Fun 𝓤) where
   walks : (C : Calls 𝓤 H) (Λ : Loops 𝓤 H) → FmC 𝓤 H (W .laws) C → Triple 𝓤 (C step-def.name) (ByValue 𝓤 H A mem run) → Walks 𝓤 H A f.ended stayed (WpFn 𝓤 H C Λ code.function) (f.clauses 𝓤 H A mem run)

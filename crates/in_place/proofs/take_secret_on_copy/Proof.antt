@@ -38,9 +38,9 @@ use denote.Triple.Walked.{says, Stays, stay-dropped, gave-slice, walkOf, goes-dr
 use denote.Exit.{yes}
 use denote.Signature.{plain, shrSliceOf}
 use Rattle.exchange.specs.declared.Exchange.{Exchange}
-use Rattle.exchange.specs.Steps.{Call, secret, roomAfter}
-use Rattle.in_place.specs.declared.Counts.{Counts}
-use Rattle.in_place.specs.InPlace.{inPlace, left}
+use Rattle.exchange.specs.Steps.{Call, secret, secretAnswered, roomAfter}
+use Rattle.in_place.specs.declared.SecretCounts.{SecretCounts}
+use Rattle.in_place.specs.InPlace.{secretInPlace, left}
 use Rattle.exchange.proofs.Exchange as X
 use Rattle.exchange.proofs.Exchange.Laws as X′
 use Rattle.exchange.proofs.Classical as Cl
@@ -49,9 +49,11 @@ use Rattle.exchange.proofs.Kem as Ke
 use Rattle.exchange.proofs.Kem.Laws as Ke′
 use Rattle.exchange.proofs.Step as S
 use Rattle.exchange.proofs.Step.Laws as S′
-use Rattle.in_place.proofs.Counts as R
-use Rattle.in_place.proofs.Counts.Laws as R′
-use Rattle.in_place.proofs.Lent.{mach, mach-s, made, makes-step, Lent, handed, returned, lends, comes-back}
+use Rattle.exchange.proofs.SecretStep as T
+use Rattle.exchange.proofs.SecretStep.Laws as T′
+use Rattle.in_place.proofs.SecretCounts as R
+use Rattle.in_place.proofs.SecretCounts.Laws as R′
+use Rattle.in_place.proofs.Lent.{mach, mach-t, stepped, steps, secret-made, makes-secret, Lent, handed, returned, lends, comes-back}
 use Rattle.in_place.proofs.take_secret_in as step
 use Rattle.in_place.proofs.take_secret_in.Symbol as step-def
 use Rattle.in_place.proofs.take_secret_in.Met as step-thm
@@ -106,8 +108,8 @@ module _ {M : Type 1} (𝓤 : URA M) (H : Heap 𝓤) (A : Atoms 𝓤) (W : Given
   abbrev of-buffers : Last → Fml
   of-buffers zs = lasts f.ended κs a (tt, zs .1)
 
-  abbrev Said : Counts → Last → Type 0
-  Said r zs = let q : Call = secret (a .1 .1 .0) (a .1 .1 .1 .0 .now) (a .1 .1 .1 .1 .0) (a .1 .1 .1 .1 .1 .0 .now) (a .1 .1 .1 .1 .1 .1 .0 .now) (a .1 .1 .1 .1 .1 .1 .1 .0 .now) in (r ≡ inPlace (a .0) (a .1 .0 .now) q) × (zs .0 ≡ left (a .0) (a .1 .0 .now) q) × (zs .1 .0 ≡ roomAfter (a .0) (a .1 .0 .now) q)
+  abbrev Said : SecretCounts → Last → Type 0
+  Said r zs = let q : Call = secret (a .1 .1 .0) (a .1 .1 .1 .0 .now) (a .1 .1 .1 .1 .0) (a .1 .1 .1 .1 .1 .0 .now) (a .1 .1 .1 .1 .1 .1 .0 .now) (a .1 .1 .1 .1 .1 .1 .1 .0 .now) in (r ≡ secretInPlace (a .0) (a .1 .0 .now) q) × (zs .0 ≡ left (a .0) (a .1 .0 .now) q) × (zs .1 .0 ≡ roomAfter (a .0) (a .1 .0 .now) q)
 
   abbrev asking : (l ν : ℕ) → GName → Item 𝓤
   asking l ν δ = toks ν ⊛ ‵ (fsep (Lent (ν ∷ []) δ (a .0) l 0) rest)
@@ -115,12 +117,13 @@ module _ {M : Type 1} (𝓤 : URA M) (H : Heap 𝓤) (A : Atoms 𝓤) (W : Given
   abbrev back : (l ν : ℕ) → GName → Val → Item 𝓤
   back l ν δ w = handed (toks ν) (λ r. R.the-row .own r (w ∷ [])) (last l ν δ) Said
 
-  exits : (r : Counts) (zs : Last) → Said r zs → Is S.the-row (made r (zs .0)) (mach-s (made r (zs .0)) ∷ []) → ent 𝓤 (⋆ 𝓤 H A (‵ (of-buffers zs) ∷ Toks ∷ [])) (Post (mach-s (made r (zs .0))))
+  exits : (r : SecretCounts) (zs : Last) → Said r zs → Is T.the-row (secret-made r (zs .0)) (mach-t (secret-made r (zs .0)) ∷ []) → ent 𝓤 (⋆ 𝓤 H A (‵ (of-buffers zs) ∷ Toks ∷ [])) (Post (mach-t (secret-made r (zs .0))))
+  unfolding secretAnswered
   exits r zs e is =
       qed W (‵ (of-buffers zs) ∷ Toks ∷ []) ∵ fsplit ! $ drop ! $ fsplit ! $ fsplit ! $ move ! (1 ∷ []) $ feqL ! (λ l.
-      suffices ! _ (ends-at 𝓤 H A f.ended stayed (f.clauses 𝓤 H A mem run) W y (mach-s (made r (zs .0))) (made r (zs .0)) (tt, zs .1) (tt, (l, (tt, (tt, (tt, (tt, (tt, (tt, tt))))))))) $
-      says ! (λ i. made (e .0 i) (e .1 i), e .2) $
-      move ! (2 ∷ []) $ frame ! $ fjoin ! $ nothing ! $ fjoin ! $ owned ! S.the-row (Is S.the-row) (LL.makes S.the-type S′.the-plain 𝓤 H A) (made r (zs .0)) _ is $ move ! (1 ∷ 0 ∷ []) $ done !)
+      suffices ! _ (ends-at 𝓤 H A f.ended stayed (f.clauses 𝓤 H A mem run) W y (mach-t (secret-made r (zs .0))) (secret-made r (zs .0)) (tt, zs .1) (tt, (l, (tt, (tt, (tt, (tt, (tt, (tt, tt))))))))) $
+      says ! (λ i. secret-made (e .0 i) (e .1 i), e .2) $
+      move ! (2 ∷ []) $ frame ! $ fjoin ! $ nothing ! $ fjoin ! $ owned ! T.the-row (Is T.the-row) (LL.makes T.the-type T′.the-plain 𝓤 H A) (secret-made r (zs .0)) _ is $ move ! (1 ∷ 0 ∷ []) $ done !)
 
   module _ (C : Calls 𝓤 H) (Λ : Loops 𝓤 H) (fm : FmC 𝓤 H (W .laws) C) (met : Triple 𝓤 (C step-def.name) (InPlace 𝓤 H A mem run)) where
     known : (l ν : ℕ) (δ : GName) → ent 𝓤 (mean 𝓤 H A (asking l ν δ)) (C step-def.name (vptr l 0 ∷ s (a .1 .0) ∷ EL.val Cl.the-type Cl′.the-laws (a .1 .1 .0) ∷ s (a .1 .1 .1 .0) ∷ EL.val Ke.the-type Ke′.the-laws (a .1 .1 .1 .1 .0) ∷ s (a .1 .1 .1 .1 .1 .0) ∷ s (a .1 .1 .1 .1 .1 .1 .0) ∷ s (a .1 .1 .1 .1 .1 .1 .1 .0) ∷ []) (λ w. mean 𝓤 H A (back l ν δ w)))
@@ -131,28 +134,30 @@ module _ {M : Type 1} (𝓤 : URA M) (H : Heap 𝓤) (A : Atoms 𝓤) (W : Given
     walk g p0 p1 p2 p3 p4 p5 p6 =
         let wt = LL.lawful X.the-type X′.the-laws 𝓤 H A W .typed (a .0) _ g .0 in
         qed W (Toks ∷ ‵ (fsep (X.the-row .own (a .0) (mach (a .0) ∷ [])) rest) ∷ []) ∵ enter ! C Λ code.function (mach (a .0) ∷ s (a .1 .0) ∷ EL.val Cl.the-type Cl′.the-laws (a .1 .1 .0) ∷ s (a .1 .1 .1 .0) ∷ EL.val Ke.the-type Ke′.the-laws (a .1 .1 .1 .1 .0) ∷ s (a .1 .1 .1 .1 .1 .0) ∷ s (a .1 .1 .1 .1 .1 .1 .0) ∷ s (a .1 .1 .1 .1 .1 .1 .1 .0) ∷ []) _ $
-        alloc1 ! (λ l0. alloc1 ! (λ l1. alloc1 ! (λ l2. alloc1 ! (λ l3. alloc1 ! (λ l4. alloc1 ! (λ l5. alloc1 ! (λ l6. alloc1 ! (λ l7. alloc1 ! (λ l8. alloc1 ! (λ l9. alloc1 ! (λ l10. alloc1 ! (λ l11. alloc1 ! (λ l12. alloc1 ! (λ l13. alloc1 ! (λ l14. alloc0 ! $ params1 ! $
-        pass1 ! (init ! 26 refl wt) $ pass1 ! (init ! 24 refl (tt, (tt, (record { fits = p0 .0 }, tt)))) $ pass1 ! (init ! 22 refl (EL.lawful Cl.the-type Cl′.the-laws 𝓤 H A W tt .typed (a .1 .1 .0) _ p1 .0)) $ pass1 ! (init ! 20 refl (tt, (tt, (record { fits = p2 .0 }, tt)))) $ pass1 ! (init ! 18 refl (EL.lawful Ke.the-type Ke′.the-laws 𝓤 H A W tt .typed (a .1 .1 .1 .1 .0) _ p3 .0)) $ pass1 ! (init ! 16 refl (tt, (tt, (record { fits = p4 .0 }, tt)))) $ pass1 ! (init ! 14 refl (tt, (tt, (record { fits = p5 .0 }, tt)))) $ pass1 ! (init ! 12 refl (tt, (tt, (record { fits = p6 .0 }, tt)))) $ pass0 ! $
-        -- [_14; …; room for _0; …; the tokens; what the parameters own]
-        assigns ! (of-opd ! (load ! (from ! (stop !)) (look ! 26 refl))) (from ! (stop !)) (init ! 10 refl wt) $
-        assigns ! (addr ! (from ! (stop !))) (from ! (stop !)) (init ! 6 refl (tt, tt)) $
-        assigns ! (addr ! (from ! (fld ! refl (hop ! (look-in ! 24 (sub ! 0 refl (whole !))) (stop !))))) (from ! (stop !)) (init ! 4 refl (tt, tt)) $
-        assigns ! (agg ! (and-then ! (load ! (from ! (stop !)) (look ! 4 refl)) (and-then ! (load ! (from ! (fld ! refl (stop !))) (look-in ! 24 (sub ! 1 refl (whole !)))) (no-more !)))) (from ! (stop !)) (init ! 2 refl (tt, (tt, (record { fits = p0 .0 }, tt)))) $
+        alloc1 ! (λ l0. alloc1 ! (λ l1. alloc1 ! (λ l2. alloc1 ! (λ l3. alloc1 ! (λ l4. alloc1 ! (λ l5. alloc1 ! (λ l6. alloc1 ! (λ l7. alloc1 ! (λ l8. alloc1 ! (λ l9. alloc1 ! (λ l10. alloc1 ! (λ l11. alloc1 ! (λ l12. alloc1 ! (λ l13. alloc1 ! (λ l14. alloc1 ! (λ l15. alloc0 ! $ params1 ! $
+        pass1 ! (init ! 28 refl wt) $ pass1 ! (init ! 26 refl (tt, (tt, (record { fits = p0 .0 }, tt)))) $ pass1 ! (init ! 24 refl (EL.lawful Cl.the-type Cl′.the-laws 𝓤 H A W tt .typed (a .1 .1 .0) _ p1 .0)) $ pass1 ! (init ! 22 refl (tt, (tt, (record { fits = p2 .0 }, tt)))) $ pass1 ! (init ! 20 refl (EL.lawful Ke.the-type Ke′.the-laws 𝓤 H A W tt .typed (a .1 .1 .1 .1 .0) _ p3 .0)) $ pass1 ! (init ! 18 refl (tt, (tt, (record { fits = p4 .0 }, tt)))) $ pass1 ! (init ! 16 refl (tt, (tt, (record { fits = p5 .0 }, tt)))) $ pass1 ! (init ! 14 refl (tt, (tt, (record { fits = p6 .0 }, tt)))) $ pass0 ! $
+        -- [_15; …; room for _0; …; the tokens; what the parameters own]
+        assigns ! (of-opd ! (load ! (from ! (stop !)) (look ! 28 refl))) (from ! (stop !)) (init ! 12 refl wt) $
+        assigns ! (addr ! (from ! (stop !))) (from ! (stop !)) (init ! 8 refl (tt, tt)) $
+        assigns ! (addr ! (from ! (fld ! refl (hop ! (look-in ! 26 (sub ! 0 refl (whole !))) (stop !))))) (from ! (stop !)) (init ! 6 refl (tt, tt)) $
+        assigns ! (agg ! (and-then ! (load ! (from ! (stop !)) (look ! 6 refl)) (and-then ! (load ! (from ! (fld ! refl (stop !))) (look-in ! 26 (sub ! 1 refl (whole !)))) (no-more !)))) (from ! (stop !)) (init ! 4 refl (tt, (tt, (record { fits = p0 .0 }, tt)))) $
         -- the copy is lent
-        move ! (10 ∷ []) $ lends ! tt (a .0) l9 0 g (λ ν δ. move ! (33 ∷ []) $ fsplit ! $ drop ! $ move ! (1 ∷ 0 ∷ []) $ fjoin ! $ move ! (2 ∷ 32 ∷ 0 ∷ []) $ join ! $ join ! $
-        calls-from ! fm (asking l9 ν δ) (vptr l9 0 ∷ s (a .1 .0) ∷ EL.val Cl.the-type Cl′.the-laws (a .1 .1 .0) ∷ s (a .1 .1 .1 .0) ∷ EL.val Ke.the-type Ke′.the-laws (a .1 .1 .1 .1 .0) ∷ s (a .1 .1 .1 .1 .1 .0) ∷ s (a .1 .1 .1 .1 .1 .1 .0) ∷ s (a .1 .1 .1 .1 .1 .1 .1 .0) ∷ []) (λ w. mean 𝓤 H A (back l9 ν δ w)) (known l9 ν δ) (and-then ! (load ! (from ! (stop !)) (look ! 8 refl)) (and-then ! (load ! (from ! (stop !)) (look ! 4 refl)) (and-then ! (load ! (from ! (stop !)) (look ! 23 refl)) (and-then ! (load ! (from ! (stop !)) (look ! 21 refl)) (and-then ! (load ! (from ! (stop !)) (look ! 19 refl)) (and-then ! (load ! (from ! (stop !)) (look ! 17 refl)) (and-then ! (load ! (from ! (stop !)) (look ! 15 refl)) (and-then ! (load ! (from ! (stop !)) (look ! 13 refl)) (no-more !))))))))) (λ w.
+        move ! (12 ∷ []) $ lends ! tt (a .0) l9 0 g (λ ν δ. move ! (35 ∷ []) $ fsplit ! $ drop ! $ move ! (1 ∷ 0 ∷ []) $ fjoin ! $ move ! (2 ∷ 34 ∷ 0 ∷ []) $ join ! $ join ! $
+        calls-from ! fm (asking l9 ν δ) (vptr l9 0 ∷ s (a .1 .0) ∷ EL.val Cl.the-type Cl′.the-laws (a .1 .1 .0) ∷ s (a .1 .1 .1 .0) ∷ EL.val Ke.the-type Ke′.the-laws (a .1 .1 .1 .1 .0) ∷ s (a .1 .1 .1 .1 .1 .0) ∷ s (a .1 .1 .1 .1 .1 .1 .0) ∷ s (a .1 .1 .1 .1 .1 .1 .1 .0) ∷ []) (λ w. mean 𝓤 H A (back l9 ν δ w)) (known l9 ν δ) (and-then ! (load ! (from ! (stop !)) (look ! 10 refl)) (and-then ! (load ! (from ! (stop !)) (look ! 6 refl)) (and-then ! (load ! (from ! (stop !)) (look ! 25 refl)) (and-then ! (load ! (from ! (stop !)) (look ! 23 refl)) (and-then ! (load ! (from ! (stop !)) (look ! 21 refl)) (and-then ! (load ! (from ! (stop !)) (look ! 19 refl)) (and-then ! (load ! (from ! (stop !)) (look ! 17 refl)) (and-then ! (load ! (from ! (stop !)) (look ! 15 refl)) (no-more !))))))))) (λ w.
         returned ! tt (toks ν) (λ r. R.the-row .own r (w ∷ [])) (last l9 ν δ) Said (λ r zs e. facts ! R.the-row (Is R.the-row) (shows 𝓤 H A R.the-row) r (w ∷ []) (λ is.
         -- [what is said of last values; the tokens; the lender's part; the locals]
-        land ! (from ! (stop !)) (init ! 11 refl (LL.lawful R.the-type R′.the-laws 𝓤 H A W .typed r _ is .0)) $ rewrite ! 11 (λ (u : Val). ‵ (fat fullShare R′.mir l10 0 u)) (ap only (LL.tells R.the-type R′.the-laws r _ is)) refl $
+        land ! (from ! (stop !)) (init ! 13 refl (LL.lawful R.the-type R′.the-laws 𝓤 H A W .typed r _ is .0)) $ rewrite ! 13 (λ (u : Val). ‵ (fat fullShare R′.mir l10 0 u)) (ap only (LL.tells R.the-type R′.the-laws r _ is)) refl $
         -- and comes back
         fsplit ! $ move ! (2 ∷ []) $ split ! $ move ! (0 ∷ 4 ∷ 2 ∷ []) $ comes-back ! tt (zs .0) l9 0 (λ k.
         -- [_9; the tokens; what is said of the buffers; the other locals]
-        assigns ! (of-opd ! (load ! (from ! (stop !)) (look ! 0 refl))) (from ! (stop !)) (init ! 3 refl (LL.lawful X.the-type X′.the-laws 𝓤 H A W .typed (zs .0) _ k .0)) $
-        assigns ! (agg ! (and-then ! (load ! (from ! (fld ! refl (stop !))) (look-in ! 11 (sub ! 0 refl (whole !)))) (and-then ! (load ! (from ! (fld ! refl (stop !))) (look-in ! 11 (sub ! 1 refl (whole !)))) (and-then ! (load ! (from ! (fld ! refl (stop !))) (look-in ! 11 (sub ! 2 refl (whole !)))) (and-then ! (load ! (from ! (stop !)) (look ! 3 refl)) (no-more !))))))
-        (from ! (stop !)) (init ! 30 refl (LL.lawful S.the-type S′.the-laws 𝓤 H A W .typed (made r (zs .0)) _ (makes-step r w (zs .0) is k) .0)) $
-        returns ! (look ! 30 refl) $ forget ! 0 refl $ forget ! 3 refl $ forget ! 5 refl $ forget ! 7 refl $ forget ! 9 refl $ forget ! 11 refl $ forget ! 14 refl $ forget ! 16 refl $ forget ! 18 refl $ forget ! 20 refl $ forget ! 22 refl $ forget ! 24 refl $ forget ! 26 refl $ forget ! 28 refl $ forget ! 30 refl $
-        move ! (30 ∷ 31 ∷ []) $ free1 ! $ move ! (28 ∷ 29 ∷ []) $ free1 ! $ move ! (26 ∷ 27 ∷ []) $ free1 ! $ move ! (24 ∷ 25 ∷ []) $ free1 ! $ move ! (22 ∷ 23 ∷ []) $ free1 ! $ move ! (20 ∷ 21 ∷ []) $ free1 ! $ move ! (18 ∷ 19 ∷ []) $ free1 ! $ move ! (16 ∷ 17 ∷ []) $ free1 ! $ move ! (14 ∷ 15 ∷ []) $ free1 ! $ move ! (0 ∷ 13 ∷ []) $ free1 ! $ move ! (10 ∷ 11 ∷ []) $ free1 ! $ move ! (8 ∷ 9 ∷ []) $ free1 ! $ move ! (6 ∷ 7 ∷ []) $ free1 ! $ move ! (4 ∷ 5 ∷ []) $ free1 ! $ move ! (2 ∷ 3 ∷ []) $ free1 ! $ free0 ! $
-        nothing ! $ move ! (0 ∷ 2 ∷ []) $ fjoin ! $ by ! (exits r zs e (makes-step r w (zs .0) is k))))))))))))))))))))))
+        assigns ! (of-opd ! (load ! (from ! (stop !)) (look ! 0 refl))) (from ! (stop !)) (init ! 5 refl (LL.lawful X.the-type X′.the-laws 𝓤 H A W .typed (zs .0) _ k .0)) $
+        assigns ! (agg ! (and-then ! (load ! (from ! (fld ! refl (stop !))) (look-in ! 13 (sub ! 0 refl (whole !)))) (and-then ! (load ! (from ! (fld ! refl (stop !))) (look-in ! 13 (sub ! 1 refl (whole !)))) (and-then ! (load ! (from ! (fld ! refl (stop !))) (look-in ! 13 (sub ! 2 refl (whole !)))) (and-then ! (load ! (from ! (stop !)) (look ! 5 refl)) (no-more !))))))
+        (from ! (stop !)) (init ! 3 refl (LL.lawful S.the-type S′.the-laws 𝓤 H A W .typed (stepped r (zs .0)) _ (steps r w (zs .0) is k) .0)) $
+        assigns ! (agg ! (and-then ! (load ! (from ! (stop !)) (look ! 3 refl)) (and-then ! (load ! (from ! (fld ! refl (stop !))) (look-in ! 13 (sub ! 3 refl (whole !)))) (no-more !))))
+        (from ! (stop !)) (init ! 32 refl (LL.lawful T.the-type T′.the-laws 𝓤 H A W .typed (secret-made r (zs .0)) _ (makes-secret r w (zs .0) is k) .0)) $
+        returns ! (look ! 32 refl) $ forget ! 0 refl $ forget ! 3 refl $ forget ! 5 refl $ forget ! 7 refl $ forget ! 9 refl $ forget ! 11 refl $ forget ! 13 refl $ forget ! 16 refl $ forget ! 18 refl $ forget ! 20 refl $ forget ! 22 refl $ forget ! 24 refl $ forget ! 26 refl $ forget ! 28 refl $ forget ! 30 refl $ forget ! 32 refl $
+        move ! (32 ∷ 33 ∷ []) $ free1 ! $ move ! (30 ∷ 31 ∷ []) $ free1 ! $ move ! (28 ∷ 29 ∷ []) $ free1 ! $ move ! (26 ∷ 27 ∷ []) $ free1 ! $ move ! (24 ∷ 25 ∷ []) $ free1 ! $ move ! (22 ∷ 23 ∷ []) $ free1 ! $ move ! (20 ∷ 21 ∷ []) $ free1 ! $ move ! (18 ∷ 19 ∷ []) $ free1 ! $ move ! (16 ∷ 17 ∷ []) $ free1 ! $ move ! (0 ∷ 15 ∷ []) $ free1 ! $ move ! (12 ∷ 13 ∷ []) $ free1 ! $ move ! (10 ∷ 11 ∷ []) $ free1 ! $ move ! (8 ∷ 9 ∷ []) $ free1 ! $ move ! (6 ∷ 7 ∷ []) $ free1 ! $ move ! (4 ∷ 5 ∷ []) $ free1 ! $ move ! (2 ∷ 3 ∷ []) $ free1 ! $ free0 ! $
+        nothing ! $ move ! (0 ∷ 2 ∷ []) $ fjoin ! $ by ! (exits r zs e (makes-secret r w (zs .0) is k)))))))))))))))))))))))
 
 module _ {M : Type 1} (𝓤 : URA M) (H : Heap 𝓤) (A : Atoms 𝓤) (W : Given 𝓤 H A) (mem : Memory → SProp 𝓤) (run : Routine → Fun 𝓤) where
   walks : (C : Calls 𝓤 H) (Λ : Loops 𝓤 H) → FmC 𝓤 H (W .laws) C → Triple 𝓤 (C step-def.name) (InPlace 𝓤 H A mem run) → Walks 𝓤 H A f.ended stayed (WpFn 𝓤 H C Λ code.function) (f.clauses 𝓤 H A mem run)

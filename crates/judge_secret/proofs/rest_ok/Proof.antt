@@ -5,9 +5,8 @@ use denote.Ref.{now}
 use Rattle.methods.specs.Rows.{hybrid, rowOf}
 use Rattle.methods.specs.Form.{formed}
 use Rattle.methods.specs.declared.Shape.{Shape}
-use Rattle.exchange.specs.Causes.{digestFor}
 use Rattle.limits.proofs.BoolLaws.{holds, fails}
-use Rattle.judge_secret.proofs.RestLaws.{apart, alike, rest-kem, rest-digest, rest-client, rest-ks, rest-s}
+use Rattle.judge_secret.proofs.RestLaws.{apart, alike, rest-kem, rest-k-pq, rest-client, rest-ks, rest-s}
 use Rattle.judge_secret.proofs.rest_ok.Statement.{statement}
 use Rattle.judge_secret.proofs.rest_ok.Tie as tie
 
@@ -23,31 +22,28 @@ is-present-requires c κs = search needs
 returns : tie.Need-returns
 returns c =
     let a = c .before .before .before .before .before .before .before .args in
-    rest-kem (a .role) (rowOf (a .method)) (a .cl) (a .kem) (now (a .digest)) (now (a .ks)) (now (a .s)) (apart (c .before .before .is-hybrid .ensures ∙ ap hybrid (c .before .before .before .k-form .ensures)) (c .before .is-present .ensures) (c .if1 .taken))
+    rest-kem (a .role) (rowOf (a .method)) (a .kem) (now (a .k-pq)) (now (a .ks)) (now (a .s)) (apart (c .before .before .is-hybrid .ensures ∙ ap hybrid (c .before .before .before .k-form .ensures)) (c .before .is-present .ensures) (c .if1 .taken))
 
-digest-len-requires : tie.Need-digest-len-requires
-digest-len-requires c κs = search needs
-
-digest-for-requires : tie.Need-digest-for-requires
-digest-for-requires c κs = search needs
+k-pq-for-requires : tie.Need-k-pq-for-requires
+k-pq-for-requires c κs = search needs
 
 returns-2 : tie.Need-returns-2
 returns-2 c =
-    let a = c .before .before .before .before .before .before .before .before .before .before .args in
-    rest-digest (a .role) (rowOf (a .method)) (a .cl) (a .kem) (now (a .digest)) (now (a .ks)) (now (a .s)) (alike (c .before .before .before .before .before .is-hybrid .ensures ∙ ap hybrid (c .before .before .before .before .before .before .k-form .ensures)) (c .before .before .before .before .is-present .ensures) (c .before .before .before .if1 .left)) (λ e. c .if2 .taken (e ∙ sym (c .before .digest-for .ensures ∙ ap (digestFor (a .cl) (a .kem)) (c .before .before .digest-len .ensures))))
+    let a = c .before .before .before .before .before .before .before .before .before .args in
+    rest-k-pq (a .role) (rowOf (a .method)) (a .kem) (now (a .k-pq)) (now (a .ks)) (now (a .s)) (alike (c .before .before .before .before .is-hybrid .ensures ∙ ap hybrid (c .before .before .before .before .before .k-form .ensures)) (c .before .before .before .is-present .ensures) (c .before .before .if1 .left)) (λ e. c .if2 .taken (e ∙ sym (c .before .k-pq-for .ensures)))
 
 returns-3 : tie.Need-returns-3
 returns-3 c =
-    let a = c .before .before .before .before .before .before .before .before .before .before .before .args in
-    rest-client (a .role) (rowOf (a .method)) (a .cl) (a .kem) (now (a .digest)) (now (a .ks)) (now (a .s)) (alike (c .before .before .before .before .before .before .is-hybrid .ensures ∙ ap hybrid (c .before .before .before .before .before .before .before .k-form .ensures)) (c .before .before .before .before .before .is-present .ensures) (c .before .before .before .before .if1 .left)) (c .before .if2 .left ∙ c .before .before .digest-for .ensures ∙ ap (digestFor (a .cl) (a .kem)) (c .before .before .before .digest-len .ensures)) (c .if3 .taken)
+    let a = c .before .before .before .before .before .before .before .before .before .before .args in
+    rest-client (a .role) (rowOf (a .method)) (a .kem) (now (a .k-pq)) (now (a .ks)) (now (a .s)) (alike (c .before .before .before .before .before .is-hybrid .ensures ∙ ap hybrid (c .before .before .before .before .before .before .k-form .ensures)) (c .before .before .before .before .is-present .ensures) (c .before .before .before .if1 .left)) (c .before .if2 .left ∙ c .before .before .k-pq-for .ensures) (c .if3 .taken)
 
 in-range-requires : tie.Need-in-range-requires
 in-range-requires c κs = search needs
 
 returns-4 : tie.Need-returns-4
 returns-4 c =
-    let a = c .before .before .before .before .before .before .before .before .before .before .before .before .before .args in
-    rest-ks (a .role) (rowOf (a .method)) (a .cl) (a .kem) (now (a .digest)) (now (a .ks)) (now (a .s)) (alike (c .before .before .before .before .before .before .before .before .is-hybrid .ensures ∙ ap hybrid (c .before .before .before .before .before .before .before .before .before .k-form .ensures)) (c .before .before .before .before .before .before .before .is-present .ensures) (c .before .before .before .before .before .before .if1 .left)) (c .before .before .before .if2 .left ∙ c .before .before .before .before .digest-for .ensures ∙ ap (digestFor (a .cl) (a .kem)) (c .before .before .before .before .before .digest-len .ensures)) (c .before .before .if3 .left) (fails (c .before .in-range .ensures) (c .if4 .taken))
+    let a = c .before .before .before .before .before .before .before .before .before .before .before .before .args in
+    rest-ks (a .role) (rowOf (a .method)) (a .kem) (now (a .k-pq)) (now (a .ks)) (now (a .s)) (alike (c .before .before .before .before .before .before .before .is-hybrid .ensures ∙ ap hybrid (c .before .before .before .before .before .before .before .before .k-form .ensures)) (c .before .before .before .before .before .before .is-present .ensures) (c .before .before .before .before .before .if1 .left)) (c .before .before .before .if2 .left ∙ c .before .before .before .before .k-pq-for .ensures) (c .before .before .if3 .left) (fails (c .before .in-range .ensures) (c .if4 .taken))
 
 s-shape-requires : tie.Need-s-shape-requires
 s-shape-requires c κs = search needs
@@ -57,10 +53,10 @@ has-form-requires c κs = search needs
 
 returns-5 : tie.Need-returns-5
 returns-5 c =
-    let a = c .before .before .before .before .before .before .before .before .before .before .before .before .before .before .before .args in
+    let a = c .before .before .before .before .before .before .before .before .before .before .before .before .before .before .args in
     c .has-form .ensures
     ∙ ap (λ (h : Shape). formed h (now (a .s))) (c .before .s-shape .ensures)
-    ∙ rest-s (a .role) (rowOf (a .method)) (a .cl) (a .kem) (now (a .digest)) (now (a .ks)) (now (a .s)) (alike (c .before .before .before .before .before .before .before .before .before .before .is-hybrid .ensures ∙ ap hybrid (c .before .before .before .before .before .before .before .before .before .before .before .k-form .ensures)) (c .before .before .before .before .before .before .before .before .before .is-present .ensures) (c .before .before .before .before .before .before .before .before .if1 .left)) (c .before .before .before .before .before .if2 .left ∙ c .before .before .before .before .before .before .digest-for .ensures ∙ ap (digestFor (a .cl) (a .kem)) (c .before .before .before .before .before .before .before .digest-len .ensures)) (c .before .before .before .before .if3 .left) (holds (c .before .before .before .in-range .ensures) (c .before .before .if4 .left))
+    ∙ rest-s (a .role) (rowOf (a .method)) (a .kem) (now (a .k-pq)) (now (a .ks)) (now (a .s)) (alike (c .before .before .before .before .before .before .before .before .before .is-hybrid .ensures ∙ ap hybrid (c .before .before .before .before .before .before .before .before .before .before .k-form .ensures)) (c .before .before .before .before .before .before .before .before .is-present .ensures) (c .before .before .before .before .before .before .before .if1 .left)) (c .before .before .before .before .before .if2 .left ∙ c .before .before .before .before .before .before .k-pq-for .ensures) (c .before .before .before .before .if3 .left) (holds (c .before .before .before .in-range .ensures) (c .before .before .if4 .left))
 
 pub rest-ok-spec : {M : Type 1} → statement M
 rest-ok-spec =
@@ -70,8 +66,7 @@ rest-ok-spec =
     is-hybrid-requires
     is-present-requires
     returns
-    digest-len-requires
-    digest-for-requires
+    k-pq-for-requires
     returns-2
     returns-3
     in-range-requires

@@ -11,7 +11,7 @@ use Rattle.secret.specs.Secret.{leadingZeros}
 use Rattle.exchange.specs.Causes.{kemBad, secretCause}
 use Rattle.wire.proofs.CauseLaws.{if-holds, if-fails}
 use Rattle.limits.proofs.BoolLaws.{holds, fails}
-use Rattle.judge_secret.proofs.RestLaws.{rest-told, no-check, not-zero, secret-failed, secret-count, secret-length, secret-rest, secret-zero, secret-left}
+use Rattle.judge_secret.proofs.RestLaws.{no-check, not-zero, secret-failed, secret-count, secret-length, secret-rest, secret-zero, secret-left}
 use Rattle.judge_secret.proofs.secret_cause.Statement.{statement}
 use Rattle.judge_secret.proofs.secret_cause.Tie as tie
 
@@ -28,7 +28,7 @@ returns : tie.Need-returns
 returns c =
     let a = c .before .before .before .before .before .before .before .args in
     c .failed-cause .ensures
-    ∙ secret-failed (a .role) (a .method) (a .cl) (now (a .x)) (a .kem) (now (a .digest)) (now (a .ks)) (now (a .s)) (c .before .enum-told .given .1)
+    ∙ secret-failed (a .role) (a .method) (a .cl) (now (a .x)) (a .kem) (now (a .k-pq)) (now (a .ks)) (now (a .s)) (c .before .enum-told .given .1)
 
 x-len-requires : tie.Need-x-len-requires
 x-len-requires c κs = search needs
@@ -38,14 +38,14 @@ returns-2 c =
     let a = c .before .before .before .before .before .before .before .before .before .args in
     let g = c .before .before .before .cl .given in
     let l = c .before .x-len .ensures in
-    secret-count (a .role) (a .method) (a .cl) (now (a .x)) (a .kem) (now (a .digest)) (now (a .ks)) (now (a .s)) (g .0 .0) (g .1) (λ e. c .if1 .taken (e ∙ sym l))
+    secret-count (a .role) (a .method) (a .cl) (now (a .x)) (a .kem) (now (a .k-pq)) (now (a .ks)) (now (a .s)) (g .0 .0) (g .1) (λ e. c .if1 .taken (e ∙ sym l))
 
 returns-3 : tie.Need-returns-3
 returns-3 c =
     let a = c .before .before .before .before .before .before .before .before .before .before .args in
     let g = c .before .before .before .before .cl .given in
     let l = c .before .before .x-len .ensures in
-    secret-length (a .role) (a .method) (a .cl) (now (a .x)) (a .kem) (now (a .digest)) (now (a .ks)) (now (a .s)) (g .0 .0) (g .1) (c .before .if1 .left ∙ l) (λ e. c .if2 .taken (e ∙ sym l))
+    secret-length (a .role) (a .method) (a .cl) (now (a .x)) (a .kem) (now (a .k-pq)) (now (a .ks)) (now (a .s)) (g .0 .0) (g .1) (c .before .if1 .left ∙ l) (λ e. c .if2 .taken (e ∙ sym l))
 
 rest-ok-requires : tie.Need-rest-ok-requires
 rest-ok-requires c κs = search needs
@@ -55,8 +55,8 @@ returns-4 c =
     let a = c .before .before .before .before .before .before .before .before .before .before .before .before .args in
     let g = c .before .before .before .before .before .before .cl .given in
     let l = c .before .before .before .before .x-len .ensures in
-    let r = rest-told (a .role) (a .method) (a .cl) _ (a .kem) (now (a .digest)) (now (a .ks)) (now (a .s)) _ (c .before .rest-ok .ensures) (g .1) in
-    secret-rest (a .role) (a .method) (a .cl) (now (a .x)) (a .kem) (now (a .digest)) (now (a .ks)) (now (a .s)) (g .0 .0) (g .1) (c .before .before .before .if1 .left ∙ l) (c .before .before .if2 .left ∙ l) (fails r (c .if3 .taken))
+    let r = c .before .rest-ok .ensures in
+    secret-rest (a .role) (a .method) (a .cl) (now (a .x)) (a .kem) (now (a .k-pq)) (now (a .ks)) (now (a .s)) (g .0 .0) (g .1) (c .before .before .before .if1 .left ∙ l) (c .before .before .if2 .left ∙ l) (fails r (c .if3 .taken))
 
 zero-check-requires : tie.Need-zero-check-requires
 zero-check-requires c κs = search needs
@@ -69,8 +69,8 @@ returns-5 c =
     let a = c .before .before .before .before .before .before .before .before .before .before .before .before .before .before .before .before .args in
     let g = c .before .before .before .before .before .before .before .before .before .before .cl .given in
     let l = c .before .before .before .before .before .before .before .before .x-len .ensures in
-    let r = rest-told (a .role) (a .method) (a .cl) _ (a .kem) (now (a .digest)) (now (a .ks)) (now (a .s)) _ (c .before .before .before .before .before .rest-ok .ensures) (g .1) in
-    secret-zero (a .role) (a .method) (a .cl) (now (a .x)) (a .kem) (now (a .digest)) (now (a .ks)) (now (a .s)) (g .0 .0) (g .1) (c .before .before .before .before .before .before .before .if1 .left ∙ l) (c .before .before .before .before .before .before .if2 .left ∙ l) (holds r (c .before .before .before .before .if3 .left)) (rw (sym (c .before .before .before .zero-check .ensures) ∙ c .before .before .if4 .taken) (eq-eqb (leadingZeros (now (a .x))) (length (now (a .x))) (sym (c .before .leading-zeros .ensures) ∙ c .if5 .taken)))
+    let r = c .before .before .before .before .before .rest-ok .ensures in
+    secret-zero (a .role) (a .method) (a .cl) (now (a .x)) (a .kem) (now (a .k-pq)) (now (a .ks)) (now (a .s)) (g .0 .0) (g .1) (c .before .before .before .before .before .before .before .if1 .left ∙ l) (c .before .before .before .before .before .before .if2 .left ∙ l) (holds r (c .before .before .before .before .if3 .left)) (rw (sym (c .before .before .before .zero-check .ensures) ∙ c .before .before .if4 .taken) (eq-eqb (leadingZeros (now (a .x))) (length (now (a .x))) (sym (c .before .leading-zeros .ensures) ∙ c .if5 .taken)))
 
 enum-told-2 : tie.Need-enum-told-2
 enum-told-2 c = search needs
@@ -84,19 +84,19 @@ enum-told-4 c = search needs
 -- behind X the KEM alone is left
 left : (j : tie.Joined4) →
     let a = j .before .before .before .before .before .before .before .before .before .before .before .before .before .before .args in
-    causeIf (kemBad (a .kem)) 17 0 ≡ secretCause (a .role) (a .method) (a .cl) (now (a .x)) (a .kem) (now (a .digest)) (now (a .ks)) (now (a .s))
+    causeIf (kemBad (a .kem)) 17 0 ≡ secretCause (a .role) (a .method) (a .cl) (now (a .x)) (a .kem) (now (a .k-pq)) (now (a .ks)) (now (a .s))
 left j =
     let a = j .before .before .before .before .before .before .before .before .before .before .before .before .before .before .args in
     let g = j .before .before .before .before .before .before .before .before .cl .given in
     let l = j .before .before .before .before .before .before .x-len .ensures in
-    let r = rest-told (a .role) (a .method) (a .cl) _ (a .kem) (now (a .digest)) (now (a .ks)) (now (a .s)) _ (j .before .before .before .rest-ok .ensures) (g .1) in
+    let r = j .before .before .before .rest-ok .ensures in
     let z =
     ⊎-elim
     (λ h. not-zero (rowOf (a .method) .«zero_check») (now (a .x)) (h .1 .result) (h .1 .ensures) (h .2 .left))
     (λ h. no-check (rowOf (a .method) .«zero_check») (now (a .x)) (sym (j .before .zero-check .ensures) ∙ h .left))
     (j .if4 .came)
     in
-    secret-left (a .role) (a .method) (a .cl) (now (a .x)) (a .kem) (now (a .digest)) (now (a .ks)) (now (a .s)) (g .0 .0) (g .1) (j .before .before .before .before .before .if1 .left ∙ l) (j .before .before .before .before .if2 .left ∙ l) (holds r (j .before .before .if3 .left)) z
+    secret-left (a .role) (a .method) (a .cl) (now (a .x)) (a .kem) (now (a .k-pq)) (now (a .ks)) (now (a .s)) (g .0 .0) (g .1) (j .before .before .before .before .before .if1 .left ∙ l) (j .before .before .before .before .if2 .left ∙ l) (holds r (j .before .before .if3 .left)) z
 
 returns-6 : tie.Need-returns-6
 returns-6 c = sym (if-fails _ 17 0 (ap kemBad (c .enum-told2 .given .1))) ∙ left (c .before .before)

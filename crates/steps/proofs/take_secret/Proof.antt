@@ -3,12 +3,13 @@ use borrow.Author.Needs.{needs}
 use Prim.Native.Nat.{ℕ}
 use mathlib.Core.Path.{_≡_, refl, ap, _∙_}
 use mathlib.Core.List.{List, []}
-use lib.ListN.{length, getD}
+use lib.ListN.{length, getD, drop}
 use denote.Ref.{now}
 use Rattle.limits.specs.Limits.{kSize}
-use Rattle.exchange.specs.Steps.{secret, countOf, secondOf}
+use Rattle.exchange.specs.Steps.{secret, secretAnswered, countOf, secondOf}
+use Rattle.exchange.proofs.StepLaws.{handed-refused}
 use Rattle.lent.specs.Lent.{tells}
-use Rattle.by_value.proofs.ValueLaws.{value-long, value-step, second-none}
+use Rattle.by_value.proofs.ValueLaws.{value-long, value-step, value-told, second-none}
 use Rattle.steps.proofs.take_secret.Statement.{statement}
 use Rattle.steps.proofs.take_secret.Tie as tie
 
@@ -22,13 +23,16 @@ not-due-requires : tie.Need-not-due-requires
 not-due-requires c κs = search needs
 
 returns : tie.Need-returns
+unfolding secretAnswered
 returns c =
     let a = c .before .before .before .before .before .before .before .before .before .before .args in
     let e = a .e in
     let r = now (a .room) in
-    let q = secret (a .cl) (now (a .x)) (a .kem) (now (a .digest)) (now (a .ks)) (now (a .s)) in
+    let q = secret (a .cl) (now (a .x)) (a .kem) (now (a .k-pq)) (now (a .ks)) (now (a .s)) in
     let v = value-long e r q _ _ (c .before .before .before .lay .ensures) (c .before .if1 .taken) in
-    (c .not-due .ensures ∙ v .0, v .1)
+    let w = c .not-due .ensures ∙ v .0 in
+    let h = handed-refused e r q (v .2) in
+    ((λ i. record { step = w i; h = h i }), v .1)
 
 slice-aggregate-take-secret : tie.Need-slice-aggregate-take-secret
 slice-aggregate-take-secret c = search needs
@@ -49,17 +53,20 @@ k-size : (c : tie.Start) → length (c .args .e .k) ≡ kSize
 k-size c = search needs
 
 returns-2 : tie.Need-returns-2
-unfolding tells countOf secondOf
+unfolding tells countOf secondOf secretAnswered
 returns-2 c =
     let d = c .before .before .before .before .before in
-    let t = d .before .before .before .before in
+    let t = d .before .before .before .before .before in
     let s = t .before .before .before .before .before .before .before .before .before in
     let a = s .args in
     let e = a .e in
     let r = now (a .room) in
-    let q = secret (a .cl) (now (a .x)) (a .kem) (now (a .digest)) (now (a .ks)) (now (a .s)) in
-    let v = value-step e r q _ _ (t .before .before .lay .ensures) (t .if1 .left) (k-size s) [] _ _ _ _ _ (d .take-secret .ensures) _ _ (λ w. (ap (λ (l : List ℕ). getD l 0 0) (w .told-is), second-none e r q refl)) in
-    (c .answer .ensures ∙ v .0, v .1)
+    let q = secret (a .cl) (now (a .x)) (a .kem) (now (a .k-pq)) (now (a .ks)) (now (a .s)) in
+    let l = t .before .before .lay .ensures in
+    let v = value-step e r q _ _ l (t .if1 .left) (k-size s) [] _ _ _ _ _ (d .take-secret .ensures) _ _ (λ w. (ap (λ (n : List ℕ). getD n 0 0) (w .told-is), second-none e r q refl)) in
+    let w = c .answer .ensures ∙ v .0 in
+    let h = ap (λ (n : List ℕ). drop 1 n) (value-told e r q _ _ l (t .if1 .left) (k-size s) [] _ _ _ _ _ (d .take-secret .ensures)) in
+    ((λ i. record { step = w i; h = h i }), v .1)
 
 pub take-secret-spec : {M : Type 1} → statement M
 take-secret-spec =
