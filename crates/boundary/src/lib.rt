@@ -22,7 +22,7 @@ ghost use Rattle.exchange.specs.Steps.{ownC, init, reply, secret as secretStep,
 ghost use Rattle.arguments.specs.Arguments.{isYes, classicalOf, kemOf};
 ghost use Rattle.stored.specs.Stored.{stageNumber, failNumber, decoded, byFit};
 ghost use Rattle.lent.specs.Lent.{placeOf, left, lentStart, lentCall};
-ghost use Rattle.lent_hash.specs.LentHash.{hashLeft, startLeft, feedLeft, finishLeft};
+ghost use Rattle.lent_hash.specs.LentHash.{hashLeft, hashStartLeft, hashFeedLeft, hashFinishLeft};
 ghost use Rattle.boundary.specs.Answers.{cursorOf, cursorNumbers, openedNumbers, choiceNumbers};
 
 // ---- the codecs
@@ -405,7 +405,7 @@ pub extern "C" fn castulfrisa_state(ex: &[u8], told: &mut [u64; 4]) -> u64
 // Starts a hash of a kind: the bytes of its digest.
 #[no_mangle]
 pub extern "C" fn castulfrisa_hash_start(hash: &mut [u8], kind: u64) -> u64
-    ensures { λ n. ⌜ hashLeft n (now (hash .exit)) ≡ startLeft (now (hash .entry)) kind ⌝ }
+    ensures { λ n. ⌜ hashLeft n (now (hash .exit)) ≡ hashStartLeft (now (hash .entry)) kind ⌝ }
 {
     lent_hash::start(hash, kind as usize) as u64
 }
@@ -413,7 +413,7 @@ pub extern "C" fn castulfrisa_hash_start(hash: &mut [u8], kind: u64) -> u64
 // Feeds it a part of its message.
 #[no_mangle]
 pub extern "C" fn castulfrisa_hash_feed(hash: &mut [u8], part: &[u8]) -> u64
-    ensures { λ n. ⌜ hashLeft n (now (hash .exit)) ≡ feedLeft (now (hash .entry)) (now (part .entry)) ⌝ }
+    ensures { λ n. ⌜ hashLeft n (now (hash .exit)) ≡ hashFeedLeft (now (hash .entry)) (now (part .entry)) ⌝ }
 {
     lent_hash::feed(hash, part) as u64
 }
@@ -421,7 +421,7 @@ pub extern "C" fn castulfrisa_hash_feed(hash: &mut [u8], part: &[u8]) -> u64
 // Tells its digest, zeros behind it. It may be fed on.
 #[no_mangle]
 pub extern "C" fn castulfrisa_hash_finish(hash: &[u8], digest: &mut [u8; limits::H_SIZE]) -> u64
-    ensures { λ n. ⌜ hashLeft n (now (digest .exit)) ≡ finishLeft (now (hash .entry)) ⌝ }
+    ensures { λ n. ⌜ hashLeft n (now (digest .exit)) ≡ hashFinishLeft (now (hash .entry)) ⌝ }
 {
     lent_hash::finish(hash, digest) as u64
 }

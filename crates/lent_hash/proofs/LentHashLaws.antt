@@ -3,8 +3,9 @@ use Prim.Native.Nat.{ℕ, zero, suc, _+_, _*_, _%_, _/_, _^_, _≤_, _<_}
 use mathlib.Core.Path.{_≡_, refl, sym, ap, _∙_}
 use mathlib.Core.List.{List, [], _∷_, _++_, append-assoc, append-nil}
 use native.Mathlib.Omega.{arith}
+use native.Mathlib.Nat.{pow-suc}
 use lib.ListN.{length, getD, take, drop, length-append, length-drop, take-append-drop}
-use lib.Seq.{drop-length, take-at, drop-at, take-suc, getD-drop, drop-drop}
+use lib.Seq.{drop-length, take-at, drop-at, take-suc, getD-drop, drop-drop, length-take-le}
 use borrow.Author.Tests.{eq-eqb, ne-eqb}
 use Rattle.limits.specs.Limits.{hSize, blockMost, hashSize}
 use Rattle.buffers.specs.Bytes.{Bytes, over, onto, laid}
@@ -14,14 +15,14 @@ use Rattle.sha_words.specs.Message.{bytesOf}
 use Rattle.sha_words.proofs.PaddingLaws.{length-bytesOf}
 use Rattle.sha_words.proofs.ValueLaws.{number-bytes}
 use Rattle.sha2.specs.declared.Hash.{Hash}
-use Rattle.lent_hash.specs.LentHash.{stateBytes, stateIn, bySize}
+use Rattle.lent_hash.specs.LentHash.{stateBytes, stateIn, byHashSize}
 
 -- ---- by size
 
-pub size-taken : {A : Type 0} (b : List ℕ) (x y : A) → length b ≡ hashSize → x ≡ bySize b x y
+pub size-taken : {A : Type 0} (b : List ℕ) (x y : A) → length b ≡ hashSize → x ≡ byHashSize b x y
 size-taken b x y h = rw (eq-eqb (length b) hashSize h)
 
-pub size-left : {A : Type 0} (b : List ℕ) (x y : A) → (length b ≡ hashSize → ⊥) → y ≡ bySize b x y
+pub size-left : {A : Type 0} (b : List ℕ) (x y : A) → (length b ≡ hashSize → ⊥) → y ≡ byHashSize b x y
 size-left b x y h = rw (ne-eqb (length b) hashSize h)
 
 -- ---- laid whole
@@ -111,3 +112,22 @@ bytes-back b g h =
     ∙ ap (λ (x : List ℕ). take 1 b ++ (take 8 (drop 1 b) ++ x)) (cut 9 8)
     ∙ ap (λ (x : List ℕ). take 1 b ++ x) (cut 1 8)
     ∙ take-append-drop 1 b
+
+number-less : (n : ℕ) (b : List ℕ) (at : ℕ) → Bytes b → numberAt b at n < 256 ^ n
+number-less zero b at g = omega arith
+number-less (suc n) b at g =
+    let x : ℕ = numberAt b at n in
+    let l : x < 256 ^ n = number-less n b at g in
+    let d : getD b (at + n) 0 < 256 = g (at + n) in
+    rw pow-suc (omega arith)
+
+-- the state in bytes is one that goes into bytes
+pub typed-in : (b : List ℕ) → Bytes b → length b ≡ hashSize → Typed (stateIn b)
+unfolding stateIn
+typed-in b g h =
+    record {
+      total = number-less 8 b 1 g;
+      held = number-less 8 b 9 g;
+      value = length-take-le hSize (drop 17 b) (omega (arith, length-drop 17 b));
+      tail = length-drop 81 b ∙ omega arith;
+    }

@@ -17,27 +17,24 @@ use Rattle.sha2.specs.declared.Hash.{Hash}
 use Rattle.sha2.specs.declared.Fed.{Fed}
 use Rattle.sha2.specs.declared.Digest.{Digest}
 use Rattle.sha2.specs.Hash.{fresh, blank, started, fits, taken, fed, finished, fedAll, allOf}
-use Rattle.sha2.proofs.PartLaws.{fed-empty, taken-total}
+use Rattle.sha2.proofs.PartLaws.{fed-empty, fed-fed, taken-total}
 use Rattle.sha2.proofs.WholeLaws.{taken-tail, taken-value, taken-held, fresh-value, fed-parts}
-use Rattle.lent_hash.specs.LentHash.{stateBytes, stateIn, HashLeft, hashLeft, startLeft, feedLeft, finishLeft, feedAllLeft}
-use Rattle.lent_hash.proofs.LentHashLaws.{size-taken, Typed, state-back, bytes-back}
+use Rattle.lent_hash.specs.LentHash.{stateBytes, stateIn, HashLeft, hashLeft, hashStartLeft, hashFeedLeft, hashFinishLeft, hashFeedAllLeft}
+use Rattle.lent_hash.proofs.LentHashLaws.{size-taken, Typed, typed-in, state-back, bytes-back}
 
 -- ---- an empty part
 
-pub empty-stays : (b : List ℕ) → Bytes b → feedLeft b [] .bytes ≡ b
-unfolding feedLeft
-empty-stays b g = by-size (eqb (length b) hashSize) refl
+-- 0 where the state fits, else 4, and no byte changes
+pub empty-stays : (b : List ℕ) → Bytes b → length b ≡ hashSize → hashFeedLeft b [] ≡ hashLeft (cond (fits (stateIn b)) 0 4) b
+unfolding hashFeedLeft
+empty-stays b g h =
+    sym (size-taken b _ _ h)
+    ∙ ap (λ (f : Fed). hashLeft (f .number) (cond (eqb (f .number) 0) (stateBytes (f .hash)) b)) (fed-empty (stateIn b))
+    ∙ by-test (fits (stateIn b))
   where
-    by-number : (t : Bool) → length b ≡ hashSize → cond t (stateBytes (fed (stateIn b) [] .hash)) b ≡ b
-    by-number true h = ap stateBytes (fed-empty (stateIn b)) ∙ bytes-back b g h
-    by-number false h = refl
-
-    by-size : (t : Bool) → eqb (length b) hashSize ≡ t
-        → cond {A = HashLeft} t
-        (hashLeft (fed (stateIn b) [] .number) (cond (eqb (fed (stateIn b) [] .number) 0) (stateBytes (fed (stateIn b) [] .hash)) b))
-        (hashLeft 4 b) .bytes ≡ b
-    by-size true e = by-number (eqb (fed (stateIn b) [] .number) 0) (eqb-true (length b) hashSize e)
-    by-size false e = refl
+    by-test : (t : Bool) → hashLeft (cond t 0 4) (cond (eqb (cond t 0 4) 0) (stateBytes (stateIn b)) b) ≡ hashLeft (cond t 0 4) b
+    by-test true = ap (hashLeft 0) (bytes-back b g h)
+    by-test false = refl
 
 -- ---- the bytes of a state
 
@@ -60,17 +57,19 @@ length-state s h =
     )
 
 -- what is fed to them, and to what they hold
-lent-fed : (s : Hash) (part : List ℕ) → Typed s → feedLeft (stateBytes s) part .bytes ≡ stateBytes (fed s part .hash)
-unfolding feedLeft fed
+lent-fed : (s : Hash) (part : List ℕ) → Typed s → hashFeedLeft (stateBytes s) part ≡ hashLeft (fed s part .number) (stateBytes (fed s part .hash))
+unfolding hashFeedLeft fed
 lent-fed s part h =
-    ap (λ (f : HashLeft). f .bytes) (sym (size-taken (stateBytes s) _ _ (length-state s h)))
-    ∙ ap (λ (x : Hash). cond (eqb (fed x part .number) 0) (stateBytes (fed x part .hash)) (stateBytes s)) (state-back s h)
+    sym (size-taken (stateBytes s) _ _ (length-state s h))
+    ∙ ap (λ (x : Hash). hashLeft (fed x part .number) (cond (eqb (fed x part .number) 0) (stateBytes (fed x part .hash)) (stateBytes s))) (state-back s h)
     ∙ by-test (fits s && leb (s .total + length part) hashMost)
   where
     by-test : (t : Bool)
-        → cond (eqb (cond {A = Fed} t (record { number = 0; hash = taken s part }) (record { number = 4; hash = s }) .number) 0)
-        (stateBytes (cond {A = Fed} t (record { number = 0; hash = taken s part }) (record { number = 4; hash = s }) .hash)) (stateBytes s)
-        ≡ stateBytes (cond {A = Fed} t (record { number = 0; hash = taken s part }) (record { number = 4; hash = s }) .hash)
+        → hashLeft (cond {A = Fed} t (record { number = 0; hash = taken s part }) (record { number = 4; hash = s }) .number)
+        (cond (eqb (cond {A = Fed} t (record { number = 0; hash = taken s part }) (record { number = 4; hash = s }) .number) 0)
+        (stateBytes (cond {A = Fed} t (record { number = 0; hash = taken s part }) (record { number = 4; hash = s }) .hash)) (stateBytes s))
+        ≡ hashLeft (cond {A = Fed} t (record { number = 0; hash = taken s part }) (record { number = 4; hash = s }) .number)
+        (stateBytes (cond {A = Fed} t (record { number = 0; hash = taken s part }) (record { number = 4; hash = s }) .hash))
     by-test true = refl
     by-test false = refl
 
@@ -105,12 +104,29 @@ started-typed kind = by-test (known kind)
     by-test true = fresh-typed kind
     by-test false = record { total = omega arith; held = omega arith; value = refl; tail = refl }
 
+-- ---- two parts
+
+-- they are as the two joined, where these are not refused: the number and every byte
+pub lent-two : (b a c : List ℕ) → Bytes b → length b ≡ hashSize → hashFeedLeft b (a ++ c) .number ≡ 0
+    → hashFeedLeft (hashFeedLeft b a .bytes) c ≡ hashFeedLeft b (a ++ c)
+lent-two b a c g h e =
+    let s : Hash = stateIn b in
+    let t : Typed s = typed-in b g h in
+    let q : stateBytes s ≡ b = bytes-back b g h in
+    let n : fed s (a ++ c) .number ≡ 0 = sym (ap (λ (f : HashLeft). f .number) (lent-fed s (a ++ c) t)) ∙ ap (λ (x : List ℕ). hashFeedLeft x (a ++ c) .number) q ∙ e in
+    ap (λ (x : List ℕ). hashFeedLeft (hashFeedLeft x a .bytes) c) (sym q)
+    ∙ ap (λ (f : HashLeft). hashFeedLeft (f .bytes) c) (lent-fed s a t)
+    ∙ lent-fed (fed s a .hash) c (fed-typed s a t)
+    ∙ ap (λ (f : Fed). hashLeft (f .number) (stateBytes (f .hash))) (fed-fed s a c (t .tail) n)
+    ∙ sym (lent-fed s (a ++ c) t)
+    ∙ ap (λ (x : List ℕ). hashFeedLeft x (a ++ c)) q
+
 -- ---- any list of parts
 
-lent-all : (s : Hash) (parts : List (List ℕ)) → Typed s → feedAllLeft (stateBytes s) parts ≡ stateBytes (fedAll s parts)
+lent-all : (s : Hash) (parts : List (List ℕ)) → Typed s → hashFeedAllLeft (stateBytes s) parts ≡ stateBytes (fedAll s parts)
 lent-all s [] h = refl
 lent-all s (part ∷ parts) h =
-    ap (λ (b : List ℕ). feedAllLeft b parts) (lent-fed s part h) ∙ lent-all (fed s part .hash) parts (fed-typed s part h)
+    ap (λ (f : HashLeft). hashFeedAllLeft (f .bytes) parts) (lent-fed s part h) ∙ lent-all (fed s part .hash) parts (fed-typed s part h)
 
 all-typed : (s : Hash) (parts : List (List ℕ)) → Typed s → Typed (fedAll s parts)
 all-typed s [] h = h
@@ -118,14 +134,14 @@ all-typed s (part ∷ parts) h = all-typed (fed s part .hash) parts (fed-typed s
 
 -- a message fed in any list of parts to a hash that was started in lent bytes, and finished, is the digest of the whole
 pub lent-parts : (b : List ℕ) (kind : ℕ) (parts : List (List ℕ)) → length b ≡ hashSize → known kind ≡ true → length (allOf parts) ≤ hashMost
-    → finishLeft (feedAllLeft (startLeft b kind .bytes) parts) ≡ hashLeft 0 (sized hSize (sha2 kind (allOf parts)))
-unfolding startLeft finishLeft
+    → hashFinishLeft (hashFeedAllLeft (hashStartLeft b kind .bytes) parts) ≡ hashLeft 0 (sized hSize (sha2 kind (allOf parts)))
+unfolding hashStartLeft hashFinishLeft
 lent-parts b kind parts l h m =
     let s : Hash = started kind .hash in
     let f : Hash = fedAll s parts in
     let t : Typed f = all-typed s parts (started-typed kind) in
-    ap (λ (x : HashLeft). finishLeft (feedAllLeft (x .bytes) parts)) (sym (size-taken b _ _ l))
-    ∙ ap finishLeft (lent-all s parts (started-typed kind))
+    ap (λ (x : HashLeft). hashFinishLeft (hashFeedAllLeft (x .bytes) parts)) (sym (size-taken b _ _ l))
+    ∙ ap hashFinishLeft (lent-all s parts (started-typed kind))
     ∙ sym (size-taken (stateBytes f) _ _ (length-state f t))
     ∙ ap (λ (x : Hash). hashLeft (finished x .number) (finished x .bytes)) (state-back f t)
     ∙ ap (λ (d : Digest). hashLeft (d .number) (d .bytes)) (fed-parts kind parts h m)

@@ -22,8 +22,8 @@ stateIn b = record { kind = getD b 0 0; total = numberAt b 1 8; held = numberAt 
 
 -- ---- the calls: on as many bytes as a hash has; on others 4, and they stay
 
-abbrev pub bySize {ℓ} : {A : Type ℓ} → List ℕ → A → A → A
-bySize b sized others = cond (eqb (length b) hashSize) sized others
+abbrev pub byHashSize {ℓ} : {A : Type ℓ} → List ℕ → A → A → A
+byHashSize b sized others = cond (eqb (length b) hashSize) sized others
 
 -- the number, and the bytes as they are left: a hash's state, or a digest
 pub record HashLeft : Type 0 where
@@ -33,21 +33,21 @@ pub record HashLeft : Type 0 where
 abbrev pub hashLeft : ℕ → List ℕ → HashLeft
 hashLeft n b = record { number = n; bytes = b }
 
-unfoldable pub startLeft : List ℕ → ℕ → HashLeft
-startLeft b kind = bySize b (hashLeft (started kind .number) (stateBytes (started kind .hash))) (hashLeft 4 b)
+unfoldable pub hashStartLeft : List ℕ → ℕ → HashLeft
+hashStartLeft b kind = byHashSize b (hashLeft (started kind .number) (stateBytes (started kind .hash))) (hashLeft 4 b)
 
 -- a refused part leaves every byte
-unfoldable pub feedLeft : List ℕ → List ℕ → HashLeft
-feedLeft b part =
-    bySize b
+unfoldable pub hashFeedLeft : List ℕ → List ℕ → HashLeft
+hashFeedLeft b part =
+    byHashSize b
     (hashLeft (fed (stateIn b) part .number) (cond (eqb (fed (stateIn b) part .number) 0) (stateBytes (fed (stateIn b) part .hash)) b))
     (hashLeft 4 b)
 
 -- the digest, or zeros
-unfoldable pub finishLeft : List ℕ → HashLeft
-finishLeft b = bySize b (hashLeft (finished (stateIn b) .number) (finished (stateIn b) .bytes)) (hashLeft 4 (zeros hSize))
+unfoldable pub hashFinishLeft : List ℕ → HashLeft
+hashFinishLeft b = byHashSize b (hashLeft (finished (stateIn b) .number) (finished (stateIn b) .bytes)) (hashLeft 4 (zeros hSize))
 
 -- the bytes that a list of parts leaves, fed one after the other
-abbrev pub feedAllLeft : List ℕ → List (List ℕ) → List ℕ
-feedAllLeft b [] = b
-feedAllLeft b (part ∷ parts) = feedAllLeft (feedLeft b part .bytes) parts
+abbrev pub hashFeedAllLeft : List ℕ → List (List ℕ) → List ℕ
+hashFeedAllLeft b [] = b
+hashFeedAllLeft b (part ∷ parts) = hashFeedAllLeft (hashFeedLeft b part .bytes) parts

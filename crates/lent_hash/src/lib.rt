@@ -5,7 +5,7 @@ ghost use Prim.Native.Nat.{_+_, _≤_};
 ghost use lib.ListN.{length};
 ghost use Rattle.limits.specs.Limits.{hashSize};
 ghost use Rattle.sha_words.specs.Blocks.{numberAt};
-ghost use Rattle.lent_hash.specs.LentHash.{stateBytes, stateIn, hashLeft, startLeft, feedLeft, finishLeft};
+ghost use Rattle.lent_hash.specs.LentHash.{stateBytes, stateIn, hashLeft, hashStartLeft, hashFeedLeft, hashFinishLeft};
 
 // Where a hash's parts stand; its kind stands first.
 const TOTAL_AT: usize = 1;
@@ -21,7 +21,7 @@ fn number_in(h: &[u8], at: usize) -> usize
     requires { ⌜ at + 8 ≤ length (now h) ⌝ }
     ensures { λ r. ⌜ r ≡ numberAt (now (h .entry)) at 8 ⌝ }
 {
-    numbers::join(
+    numbers::join_64(
         h[at],
         h[at + 1],
         h[at + 2],
@@ -55,8 +55,8 @@ fn store(h: &mut [u8], s: Hash)
     ensures { λ _. ⌜ now (h .exit) ≡ stateBytes s ⌝ }
 {
     let kind = [s.kind];
-    let total = numbers::bytes_of(s.total as u64);
-    let held = numbers::bytes_of(s.held as u64);
+    let total = numbers::bytes_64(s.total as u64);
+    let held = numbers::bytes_64(s.held as u64);
     let value = s.value;
     let tail = s.tail;
     buffers::put_bytes(h, 0, &kind);
@@ -68,7 +68,7 @@ fn store(h: &mut [u8], s: Hash)
 
 // Starts a hash: of an unknown kind 4, and a state that fits nothing.
 pub fn start(h: &mut [u8], kind: usize) -> u8
-    ensures { λ n. ⌜ hashLeft n (now (h .exit)) ≡ startLeft (now (h .entry)) kind ⌝ }
+    ensures { λ n. ⌜ hashLeft n (now (h .exit)) ≡ hashStartLeft (now (h .entry)) kind ⌝ }
 {
     if h.len() != limits::HASH_SIZE {
         return 4;
@@ -81,7 +81,7 @@ pub fn start(h: &mut [u8], kind: usize) -> u8
 
 // Feeds a part: 4, and every byte as it was, where the state does not fit or would be fed more than 65,536 bytes in all.
 pub fn feed(h: &mut [u8], part: &[u8]) -> u8
-    ensures { λ n. ⌜ hashLeft n (now (h .exit)) ≡ feedLeft (now (h .entry)) (now (part .entry)) ⌝ }
+    ensures { λ n. ⌜ hashLeft n (now (h .exit)) ≡ hashFeedLeft (now (h .entry)) (now (part .entry)) ⌝ }
 {
     if h.len() != limits::HASH_SIZE {
         return 4;
@@ -98,7 +98,7 @@ pub fn feed(h: &mut [u8], part: &[u8]) -> u8
 
 // Tells the digest, zeros behind it: 4 and zeros where the state does not fit.
 pub fn finish(h: &[u8], digest: &mut [u8; limits::H_SIZE]) -> u8
-    ensures { λ n. ⌜ hashLeft n (now (digest .exit)) ≡ finishLeft (now (h .entry)) ⌝ }
+    ensures { λ n. ⌜ hashLeft n (now (digest .exit)) ≡ hashFinishLeft (now (h .entry)) ⌝ }
 {
     *digest = [0u8; limits::H_SIZE];
     if h.len() != limits::HASH_SIZE {

@@ -11,11 +11,11 @@ use Rattle.buffers.specs.Bytes.{laid}
 use Rattle.buffers.proofs.ByteLaws.{tail-part}
 use Rattle.sha_words.specs.Words.{Width}
 use Rattle.sha_words.specs.Constants.{widthOf}
-use Rattle.sha_words.specs.Message.{bytesOf, padding, behind, sized, valueAfter}
+use Rattle.sha_words.specs.Message.{bytesOf, padding, padded, behind, sized, valueAfter}
 use Rattle.sha_words.proofs.SizedLaws.{length-sized, take-sized, take-sized-more}
-use Rattle.sha_words.proofs.ChainLaws.{length-behind}
+use Rattle.sha_words.proofs.ChainLaws.{length-behind, behind-parts}
 use Rattle.sha_words.proofs.PaddingLaws.{Sizes, sizes-of, ends-one, ends-two, counted}
-use Rattle.sha_words.proofs.ValueLaws.{valueAfter-then}
+use Rattle.sha_words.proofs.ValueLaws.{valueAfter-then, valueAfter-parts}
 use Rattle.sha2.specs.declared.Hash.{Hash}
 use Rattle.sha2.specs.Hash.{waiting, grown, Ending}
 
@@ -114,3 +114,31 @@ module _ (kind : ℕ) (v before : List ℕ) (total : ℕ) (ending : Ending kind 
       ey ∙ ap (valueAfter p x) g ∙ ap (λ (t : List ℕ). valueAfter p t (sized (p .block - 3) [] ++ count)) (ex ∙ ap (valueAfter p v) f)
       ∙ valueAfter-then p v (sized (p .block) begun) (sized (p .block - 3) [] ++ count) sizes (length-sized (p .block) begun l)
       ∙ ap (valueAfter p v) (sym (ends-two p before total sizes (ending .waits) (ending .most) h))
+
+-- ---- two parts, to their end
+
+-- what stands behind the whole blocks of a, as the code cuts it
+pub behind-code : (p : Width) (a : List ℕ) (size : ℕ) → size ≡ p .block
+    → take (length a - (length a - length a % size)) (drop (length a - length a % size) a) ≡ behind p a
+unfolding behind
+behind-code p a size h = tail-part a (length a - length a % size) ∙ ap (λ (n : ℕ). drop (length a - length a % n) a) h
+
+pub both-ended : (p : Width) (w a b before x y r v : List ℕ) (n total : ℕ) → Sizes p → x ≡ valueAfter p w a → before ≡ behind p a
+    → y ≡ valueAfter p x (before ++ b) → n ≡ (length before + length b) % p .block
+    → r ≡ sized blockMost (drop (length before + length b - n) (before ++ b))
+    → total ≡ length a + length b → v ≡ valueAfter p y (take n r ++ padding p total)
+    → v ≡ valueAfter p w (padded p (a ++ b))
+unfolding behind
+both-ended p w a b before x y r v n total sizes ex eb ey en er et ev =
+    let m : List ℕ = before ++ b in
+    let k : n ≡ length m % p .block = en ∙ ap (λ (j : ℕ). j % p .block) (sym (length-append before b)) in
+    let d : drop (length before + length b - n) m ≡ behind p m = rw (← length-append before b, k) in
+    let t : take n r ≡ behind p (a ++ b) =
+    ap (take n) (er ∙ ap (sized blockMost) d) ∙ take-sized blockMost n (behind p m) (length-behind p m ∙ sym k)
+    ∙ ap (λ (l : List ℕ). behind p (l ++ b)) eb ∙ behind-parts p a b in
+    let z : y ≡ valueAfter p w (a ++ b) = ey ∙ (λ i. valueAfter p (ex i) (eb i ++ b)) ∙ valueAfter-parts p w a b sizes in
+    ev ∙ (λ i. valueAfter p (z i) (t i ++ padding p (total-is i)))
+    ∙ valueAfter-parts p w (a ++ b) (padding p (length (a ++ b))) sizes
+  where
+    total-is : total ≡ length (a ++ b)
+    total-is = et ∙ sym (length-append a b)

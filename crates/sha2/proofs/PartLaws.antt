@@ -66,14 +66,16 @@ taken-total s (x ∷ a) = refl
 
 -- ---- fed
 
--- an empty part changes nothing
-pub fed-empty : (s : Hash) → fed s [] .hash ≡ s
+-- an empty part changes nothing: 0 where the state fits, at 65,536 bytes too, else 4
+pub fed-empty : (s : Hash) → fed s [] ≡ record { number = cond (fits s) 0 4; hash = s }
 unfolding fed
-fed-empty s = by-test (fits s && leb (s .total + 0) hashMost)
+fed-empty s = by-test (fits s) refl
   where
-    by-test : (t : Bool) → cond {A = Fed} t (record { number = 0; hash = s }) (record { number = 4; hash = s }) .hash ≡ s
-    by-test true = refl
-    by-test false = refl
+    by-test : (t : Bool) → fits s ≡ t
+        → cond {A = Fed} (t && leb (s .total + 0) hashMost) (record { number = 0; hash = s }) (record { number = 4; hash = s })
+        ≡ record { number = cond t 0 4; hash = s }
+    by-test true e = rw (le-leb (s .total + 0) hashMost (omega (arith, fitting s e .total)))
+    by-test false e = refl
 
 -- what is not refused
 fed-so : (s : Hash) (m : List ℕ) → fed s m .number ≡ 0 → (fits s ≡ true) × (s .total + length m ≤ hashMost)

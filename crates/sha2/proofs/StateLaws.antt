@@ -1,6 +1,6 @@
 -- Laws of a hash's state: when it fits, and what feeding and finishing answer then. Assumes nothing.
 use Prim.Native.Nat.{ℕ, _+_, _-_, _%_, _≤_, _<_}
-use mathlib.Core.Path.{_≡_, refl, sym}
+use mathlib.Core.Path.{_≡_, refl, sym, ap, _∙_}
 use mathlib.Core.List.{List, [], _∷_}
 use mathlib.Core.Bool.{Bool, true, false, not, _&&_, and-eq-true-iff}
 use mathlib.Core.Logic.{_⊎_, ⊎-elim}
@@ -12,13 +12,13 @@ use borrow.Author.Tests.{le-leb, lt-leb, leb-true, leb-false, eqb-true, ne-eqb}
 use Rattle.limits.specs.Limits.{hashMost, blockMost, hSize}
 use Rattle.buffers.specs.Bytes.{zeros}
 use Rattle.sha_words.specs.Words.{Width}
-use Rattle.sha_words.specs.Constants.{known, widthOf}
-use Rattle.sha_words.specs.Message.{sized}
+use Rattle.sha_words.specs.Constants.{known, widthOf, initial}
+use Rattle.sha_words.specs.Message.{sized, valueOf}
 use Rattle.sha_words.proofs.PaddingLaws.{sizes-of}
 use Rattle.sha2.specs.declared.Hash.{Hash}
 use Rattle.sha2.specs.declared.Fed.{Fed}
 use Rattle.sha2.specs.declared.Digest.{Digest}
-use Rattle.sha2.specs.Hash.{fits, grown, taken, fed, lastValue, finished}
+use Rattle.sha2.specs.Hash.{fresh, blank, initialValue, started, fits, grown, taken, fed, lastValue, finished}
 
 -- ---- not
 
@@ -70,6 +70,28 @@ fitting s h =
     let l : s .total % p .block < p .block = mod-lt (s .total) (sizes-of (s .kind) .positive) in
     let m : p .block ≤ blockMost = sizes-of (s .kind) .most in
     record { kind = d .0; total = leb-true (s .total) hashMost (d .1); held = e; less = rw e l; most = omega arith }
+
+-- ---- started
+
+pub initial-known : (kind : ℕ) → known kind ≡ true → initialValue kind ≡ valueOf (widthOf kind) (initial kind)
+unfolding initialValue
+initial-known kind h = rw h
+
+-- what the code makes
+abbrev made : ℕ → List ℕ → Hash
+made kind v = record { kind = kind; total = 0; held = 0; value = v; tail = zeros blockMost }
+
+pub start-unknown : (kind : ℕ) (v : List ℕ) (s : Hash) → known kind ≡ false → v ≡ initialValue kind → s ≡ made 0 v
+    → _≡_ {A = Fed} (record { number = 4; hash = s }) (started kind)
+unfolding started blank initialValue
+start-unknown kind v s h ev es =
+    let z : v ≡ zeros hSize = ev ∙ rw h in
+    ap (λ (x : Hash). record { number = 4; hash = x }) (es ∙ ap (made 0) z) ∙ rw h
+
+pub start-known : (kind : ℕ) (v : List ℕ) (s : Hash) → known kind ≡ true → v ≡ initialValue kind → s ≡ made kind v
+    → _≡_ {A = Fed} (record { number = 0; hash = s }) (started kind)
+unfolding started fresh
+start-known kind v s h ev es = ap (λ (x : Hash). record { number = 0; hash = x }) (es ∙ ap (made kind) (ev ∙ initial-known kind h)) ∙ rw h
 
 -- ---- fed
 

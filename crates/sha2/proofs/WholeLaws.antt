@@ -1,14 +1,14 @@
 -- A message that is fed in any list of parts and finished is the digest of the whole by FIPS 180-4. Assumes nothing.
 use Prim.Native.Nat.{ℕ, zero, suc, _+_, _-_, _*_, _%_, _≤_, _<_}
-use mathlib.Core.Path.{_≡_, refl, sym, ap, _∙_}
-use mathlib.Core.List.{List, [], _∷_, _++_, append-nil}
+use mathlib.Core.Path.{_≡_, refl, sym, ap, subst, _∙_}
+use mathlib.Core.List.{List, [], _∷_, _++_}
 use mathlib.Core.Bool.{Bool, true, false, cond, _&&_}
 use native.Mathlib.Omega.{arith}
 use native.Mathlib.Nat.{zero-mod, mod-lt}
 use lib.Dec.{leb, eqb}
 use lib.ListN.{length, take, drop, length-append}
 use lib.Seq.{take-append-le}
-use borrow.Author.Tests.{le-leb, leb-true, eq-eqb}
+use borrow.Author.Tests.{le-leb, eq-eqb}
 use Rattle.limits.specs.Limits.{hashMost, blockMost, hSize}
 use Rattle.buffers.specs.Bytes.{zeros}
 use Rattle.sha_words.specs.Words.{Width}
@@ -23,8 +23,8 @@ use Rattle.sha_words.proofs.DigestLaws.{length-after, padded-least, kind-most, 
 use Rattle.sha2.specs.declared.Hash.{Hash}
 use Rattle.sha2.specs.declared.Fed.{Fed}
 use Rattle.sha2.specs.declared.Digest.{Digest}
-use Rattle.sha2.specs.Hash.{fresh, blank, started, fits, grown, waiting, taken, fed, lastValue, finished, digested, fedAll, allOf}
-use Rattle.sha2.proofs.StateLaws.{fitting, fed-unfit, fed-taken, finished-unfit, finished-fit}
+use Rattle.sha2.specs.Hash.{fresh, started, fits, grown, waiting, taken, fed, lastValue, finished, digested, fedAll, AllTaken, allOf}
+use Rattle.sha2.proofs.StateLaws.{fitting, fed-taken, finished-fit}
 use Rattle.sha2.proofs.PartLaws.{taken-taken, taken-fits, taken-total}
 
 -- ---- a fresh state
@@ -166,6 +166,20 @@ fedAll-taken s (part ∷ parts) l h k =
     ∙ fedAll-taken (taken s part) parts (taken-tail s part l h) (taken-fits s part l h a) (omega (arith, taken-total s part))
     ∙ taken-taken s part (allOf parts)
 
+-- each part is taken
+all-taken : (s : Hash) (parts : List (List ℕ)) → length (s .tail) ≡ blockMost → fits s ≡ true → s .total + length (allOf parts) ≤ hashMost
+    → AllTaken s parts
+all-taken s [] l h k = tt
+all-taken s (part ∷ parts) l h k =
+    let n = length-append part (allOf parts) in
+    let a : s .total + length part ≤ hashMost = omega arith in
+    let f = fed-taken s part h a in
+    (sym (ap (λ (x : Fed). x .number) f), subst (λ (x : Fed). AllTaken (x .hash) parts) f (all-taken (taken s part) parts (taken-tail s part l h) (taken-fits s part l h a) (omega (arith, taken-total s part))))
+
+pub parts-taken : (kind : ℕ) (parts : List (List ℕ)) → known kind ≡ true → length (allOf parts) ≤ hashMost → AllTaken (started kind .hash) parts
+unfolding started
+parts-taken kind parts h l = rw h (all-taken (fresh kind) parts (fresh-tail kind) (fresh-fits kind h) (omega (arith, fresh-total kind)))
+
 -- a message fed in any list of parts and finished is the digest of the whole
 pub fed-parts : (kind : ℕ) (parts : List (List ℕ)) → known kind ≡ true → length (allOf parts) ≤ hashMost
     → finished (fedAll (started kind .hash) parts) ≡ record { number = 0; bytes = sized hSize (sha2 kind (allOf parts)) }
@@ -183,46 +197,19 @@ pub digested-known : (kind : ℕ) (m : List ℕ) → known kind ≡ true → len
 unfolding digested
 digested-known kind m t h = rw (t, le-leb (length m) hashMost h)
 
-pub digested-long : (kind : ℕ) (a b : List ℕ) → leb (length a + length b) hashMost ≡ false
+pub digested-refused : (kind : ℕ) (a b : List ℕ) → (known kind && leb (length a + length b) hashMost) ≡ false
     → _≡_ {A = Digest} (record { number = 4; bytes = zeros hSize }) (digested kind (a ++ b))
 unfolding digested
-digested-long kind a b h = rw (length-append a b, h) (by-test (known kind))
-  where
-    by-test : (t : Bool)
-        → _≡_ {A = Digest} (record { number = 4; bytes = zeros hSize })
-        (cond (t && false) (record { number = 0; bytes = sized hSize (sha2 kind (a ++ b)) }) (record { number = 4; bytes = zeros hSize }))
-    by-test true = refl
-    by-test false = refl
+digested-refused kind a b h = rw (length-append a b, h)
 
-blank-unfit : fits blank ≡ false
-unfolding fits blank
-blank-unfit = refl
-
-unknown : (a b : List ℕ) → finished (fed (fed blank a .hash) b .hash) ≡ record { number = 4; bytes = zeros hSize }
-unknown a b =
-    let e : (m : List ℕ) → fed blank m .hash ≡ blank = λ m. ap (λ (f : Fed). f .hash) (sym (fed-unfit blank m blank-unfit)) in
-    ap (λ (s : Hash). finished (fed s b .hash)) (e a) ∙ ap finished (e b) ∙ sym (finished-unfit blank blank-unfit)
-
-started-unknown : (kind : ℕ) → known kind ≡ false → started kind ≡ record { number = 4; hash = blank }
-unfolding started
-started-unknown kind h = rw h
-
--- fed as two parts
-pub two-parts : (kind : ℕ) (a b : List ℕ) → leb (length a + length b) hashMost ≡ true
-    → finished (fed (fed (started kind .hash) a .hash) b .hash) ≡ digested kind (a ++ b)
-unfolding digested
-two-parts kind a b h = rw (length-append a b, h) (by-test (known kind) refl)
-  where
-    joined : a ++ b ≡ allOf (a ∷ b ∷ [])
-    joined = ap (λ (t : List ℕ). a ++ t) (sym (append-nil b))
-
-    short : length (allOf (a ∷ b ∷ [])) ≤ hashMost
-    short = omega (arith, ap length (sym joined), length-append a b, leb-true (length a + length b) hashMost h)
-
-    by-test : (t : Bool) → known kind ≡ t
-        → finished (fed (fed (started kind .hash) a .hash) b .hash)
-        ≡ cond (t && true) (record { number = 0; bytes = sized hSize (sha2 kind (a ++ b)) }) (record { number = 4; bytes = zeros hSize })
-    by-test true e =
-        fed-parts kind (a ∷ b ∷ []) e short ∙ ap (λ (t : List ℕ). record { number = 0; bytes = sized hSize (sha2 kind t) }) (sym joined)
-    by-test false e =
-        ap (λ (f : Fed). finished (fed (fed (f .hash) a .hash) b .hash)) (started-unknown kind e) ∙ unknown a b
+-- the first bytes of the last hash value, from the initial one on
+pub digested-of : (kind : ℕ) (m v : List ℕ) → known kind ≡ true → length m ≤ hashMost
+    → v ≡ valueAfter (widthOf kind) (valueOf (widthOf kind) (initial kind)) (padded (widthOf kind) m)
+    → _≡_ {A = Digest} (record { number = 0; bytes = sized hSize (take kind v) }) (digested kind m)
+digested-of kind m v h l e =
+    let p : Width = widthOf kind in
+    let w : List ℕ = valueOf p (initial kind) in
+    ap (λ (t : List ℕ). record { number = 0; bytes = sized hSize (take kind t) })
+    (e ∙ valueAfter-whole p w (padded p m) (padded-least p m (sizes-of kind .positive)) ∙ ap (λ (t : List ℕ). valueOf p (after p t (padded p m))) (read-initial kind h))
+    ∙ ap (λ (t : List ℕ). record { number = 0; bytes = sized hSize t }) (take-value kind m h)
+    ∙ sym (digested-known kind m h l)

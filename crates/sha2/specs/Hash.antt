@@ -19,6 +19,10 @@ use Rattle.sha2.specs.declared.Digest.{Digest}
 unfoldable pub fresh : ℕ → Hash
 fresh kind = record { kind = kind; total = 0; held = 0; value = valueOf (widthOf kind) (initial kind); tail = zeros blockMost }
 
+-- the initial hash value of a kind, as bytes; zeros where there is none
+unfoldable pub initialValue : ℕ → List ℕ
+initialValue kind = cond (known kind) (valueOf (widthOf kind) (initial kind)) (zeros hSize)
+
 -- a state that fits nothing
 unfoldable pub blank : Hash
 blank = record { kind = 0; total = 0; held = 0; value = zeros hSize; tail = zeros blockMost }
@@ -81,6 +85,11 @@ digested kind m =
 abbrev pub fedAll : Hash → List (List ℕ) → Hash
 fedAll s [] = s
 fedAll s (part ∷ parts) = fedAll (fed s part .hash) parts
+
+-- each of them is answered 0
+abbrev pub AllTaken : Hash → List (List ℕ) → Type 0
+AllTaken s [] = Unit {0}
+AllTaken s (part ∷ parts) = (fed s part .number ≡ 0) × AllTaken (fed s part .hash) parts
 
 abbrev pub allOf : List (List ℕ) → List ℕ
 allOf [] = []

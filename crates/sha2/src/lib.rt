@@ -6,12 +6,12 @@ ghost use lib.Dec.{leb};
 ghost use lib.ListN.{length, take, drop};
 ghost use Rattle.limits.specs.Limits.{hashMost, blockMost, hSize};
 ghost use Rattle.buffers.specs.Bytes.{zeros, laid};
-ghost use Rattle.sha_words.specs.Constants.{widthOf};
-ghost use Rattle.sha_words.specs.Message.{bytesOf, padding, sized, valueAfter};
-ghost use Rattle.sha2.specs.Hash.{fits as fitting, Growing, Ending, grown, fed, started, finished, digested};
+ghost use Rattle.sha_words.specs.Constants.{known, widthOf};
+ghost use Rattle.sha_words.specs.Message.{bytesOf, padding, padded, sized, valueAfter};
+ghost use Rattle.sha2.specs.Hash.{fits as fitting, Growing, Ending, initialValue, grown, fed, started, finished, digested};
 
 // A hash that is being fed: its kind, the bytes fed so far, how many of them wait for a whole block, the hash value of the others as bytes
-// (SHA-256 uses the first 32), and what waits, zeros behind it.
+// (SHA-256 uses the first 32), and what waits; a feed leaves zeros behind that.
 pub struct Hash {
     pub kind: u8,
     pub total: usize,
@@ -20,7 +20,7 @@ pub struct Hash {
     pub tail: [u8; limits::BLOCK_MOST],
 }
 
-// 0 and the hash fed; or 4 and the hash as it was.
+// 0 and the hash started or fed; or 4, and a state that fits nothing or the hash as it was.
 pub struct Fed {
     pub number: u8,
     pub hash: Hash,
@@ -351,27 +351,38 @@ const INITIAL_512: [u8; limits::H_SIZE] = [
     0x79,
 ];
 
+fn is_known(kind: usize) -> bool
+    ensures { λ r. ⌜ r ≡ known kind ⌝ }
+{
+    (kind == 32) | (kind == 48) | (kind == 64)
+}
+
+// The initial hash value of a kind; zeros where there is none.
+fn initial_of(kind: usize) -> [u8; limits::H_SIZE]
+    ensures { λ r. ⌜ r ≡ initialValue kind ⌝ }
+{
+    match kind {
+        32 => INITIAL_256,
+        48 => INITIAL_384,
+        64 => INITIAL_512,
+        _ => [0u8; limits::H_SIZE],
+    }
+}
+
 // A hash that was fed nothing; of an unknown kind 4, and a state that fits nothing.
 pub fn start(kind: usize) -> Fed
     ensures { λ r. ⌜ r ≡ started kind ⌝ }
 {
-    match kind {
-        32 => Fed {
-            number: 0,
-            hash: made(32, INITIAL_256),
-        },
-        48 => Fed {
-            number: 0,
-            hash: made(48, INITIAL_384),
-        },
-        64 => Fed {
-            number: 0,
-            hash: made(64, INITIAL_512),
-        },
-        _ => Fed {
+    let value = initial_of(kind);
+    if !is_known(kind) {
+        return Fed {
             number: 4,
-            hash: made(0, [0u8; limits::H_SIZE]),
-        },
+            hash: made(0, value),
+        };
+    }
+    Fed {
+        number: 0,
+        hash: made(kind as u8, value),
     }
 }
 
@@ -459,19 +470,32 @@ pub fn finish(s: Hash) -> Digest
 pub fn hash_of(kind: usize, a: &[u8], b: &[u8]) -> Digest
     ensures { λ r. ⌜ r ≡ digested kind (now (a .entry) ++ now (b .entry)) ⌝ }
 {
-    if !sum_fits(a.len(), b.len()) {
+    if !(is_known(kind) & sum_fits(a.len(), b.len())) {
         return Digest {
             number: 4,
             bytes: [0u8; limits::H_SIZE],
         };
     }
-    let s = start(kind);
-    let h = s.hash;
-    let x = feed(h, a);
-    let g = x.hash;
-    let y = feed(g, b);
-    let f = y.hash;
-    finish(f)
+    let v = value_of_both(kind as u8, initial_of(kind), a, b);
+    Digest {
+        number: 0,
+        bytes: cut(v, kind),
+    }
+}
+
+// The last hash value of a and then b, padded. What stands behind the whole blocks of a is not copied.
+fn value_of_both(kind: u8, value: [u8; limits::H_SIZE], a: &[u8], b: &[u8]) -> [u8; limits::H_SIZE]
+    requires { ⌜ length (now a) + length (now b) ≤ hashMost ⌝ }
+    ensures { λ r. ⌜ r ≡ valueAfter (widthOf kind) value (padded (widthOf kind) (now (a .entry) ++ now (b .entry))) ⌝ }
+{
+    let size = block_of(kind);
+    let x = blocks(kind, value, a);
+    let from = a.len() - a.len() % size;
+    let before = &a[from..];
+    let y = absorb(kind, x, before, b);
+    let held = (before.len() + b.len()) % size;
+    let tail = tail_of(before, b, held);
+    last(kind, y, &tail[0..held], a.len() + b.len())
 }
 
 // Whether two lengths together are at most what may be fed.

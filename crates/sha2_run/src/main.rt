@@ -74,7 +74,7 @@ fn in_parts(kind: u8, m: &[u8]) {
 }
 
 fn length_in(head: &[u8; 9]) -> usize {
-    numbers::join(
+    numbers::join_64(
         head[1],
         head[2],
         head[3],

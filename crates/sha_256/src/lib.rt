@@ -1,4 +1,4 @@
-// FIPS 180-4, sections 4.1, 4.2 and 6.2.2: the block function of SHA-256, on words of 32 bits. A hash value goes in and comes back as bytes.
+// FIPS 180-4, sections 4.1 and 6.2.2: the block function of SHA-256, on words of 32 bits. A hash value goes in and comes back as bytes.
 ghost use mathlib.Core.Path.{_≡_};
 ghost use Prim.Native.Nat.{_+_, _*_, _≤_};
 ghost use lib.ListN.{length};
@@ -47,31 +47,11 @@ fn small_sigma1(x: u32) -> u32
 
 // ---- words and bytes
 
-fn join(b0: u8, b1: u8, b2: u8, b3: u8) -> u32
-    ensures { λ r. ⌜ r ≡ ((b0 * 256 + b1) * 256 + b2) * 256 + b3 ⌝ }
-{
-    (b0 as u32) * 0x1000000 + (b1 as u32) * 0x10000 + (b2 as u32) * 0x100 + (b3 as u32)
-}
-
 fn word(b: &[u8], at: usize) -> u32
     requires { ⌜ at + 4 ≤ length (now b) ⌝ }
     ensures { λ r. ⌜ r ≡ numberAt (now (b .entry)) at 4 ⌝ }
 {
-    join(b[at], b[at + 1], b[at + 2], b[at + 3])
-}
-
-fn bytes_of(w: u32) -> [u8; 4]
-    ensures { λ r. ⌜ r ≡ bytesOf 4 w ⌝ }
-{
-    let w1 = w / 256;
-    let w2 = w1 / 256;
-    let w3 = w2 / 256;
-    [
-        (w3 % 256) as u8,
-        (w2 % 256) as u8,
-        (w1 % 256) as u8,
-        (w % 256) as u8,
-    ]
+    numbers::join_32(b[at], b[at + 1], b[at + 2], b[at + 3])
 }
 
 // A hash value's eight words.
@@ -98,7 +78,7 @@ fn value_of(words: [u32; 8]) -> [u8; limits::H_SIZE]
     let mut out = [0u8; limits::H_SIZE];
     let mut i = 0;
     while i < 8 {
-        let b = bytes_of(words[i]);
+        let b = numbers::bytes_32(words[i]);
         let at = 4 * i;
         buffers::put_bytes(&mut out, at, &b);
         i += 1;
@@ -157,8 +137,9 @@ fn round(v: Variables, k: u32, w: u32) -> Variables
     }
 }
 
-fn rounds(v: Variables, words: [u32; 64]) -> Variables
-    ensures { λ r. ⌜ working r ≡ roundsOf bits32 words (working v) 64 ⌝ }
+fn rounds(v: Variables, words: &[u32]) -> Variables
+    requires { ⌜ length (now words) ≡ 64 ⌝ }
+    ensures { λ r. ⌜ working r ≡ roundsOf bits32 (now (words .entry)) (working v) 64 ⌝ }
 {
     let mut x = v;
     for t in 0..64 {
@@ -199,7 +180,7 @@ fn next(h: [u32; 8], b: &[u8]) -> [u32; 8]
             g: h[6],
             h: h[7],
         },
-        words,
+        &words,
     );
     sums(h, v)
 }

@@ -1,4 +1,4 @@
-// FIPS 180-4, sections 4.1, 4.2 and 6.4.2: the block function of SHA-384 and SHA-512, on words of 64 bits. A hash value goes in and comes back as bytes.
+// FIPS 180-4, sections 4.1 and 6.4.2: the block function of SHA-384 and SHA-512, on words of 64 bits. A hash value goes in and comes back as bytes.
 ghost use mathlib.Core.Path.{_≡_};
 ghost use Prim.Native.Nat.{_+_, _*_, _≤_};
 ghost use lib.ListN.{length};
@@ -51,7 +51,7 @@ fn word(b: &[u8], at: usize) -> u64
     requires { ⌜ at + 8 ≤ length (now b) ⌝ }
     ensures { λ r. ⌜ r ≡ numberAt (now (b .entry)) at 8 ⌝ }
 {
-    numbers::join(
+    numbers::join_64(
         b[at],
         b[at + 1],
         b[at + 2],
@@ -87,7 +87,7 @@ fn value_of(words: [u64; 8]) -> [u8; limits::H_SIZE]
     let mut out = [0u8; limits::H_SIZE];
     let mut i = 0;
     while i < 8 {
-        let b = numbers::bytes_of(words[i]);
+        let b = numbers::bytes_64(words[i]);
         let at = 8 * i;
         buffers::put_bytes(&mut out, at, &b);
         i += 1;
@@ -146,8 +146,9 @@ fn round(v: Variables, k: u64, w: u64) -> Variables
     }
 }
 
-fn rounds(v: Variables, words: [u64; 80]) -> Variables
-    ensures { λ r. ⌜ working r ≡ roundsOf bits64 words (working v) 80 ⌝ }
+fn rounds(v: Variables, words: &[u64]) -> Variables
+    requires { ⌜ length (now words) ≡ 80 ⌝ }
+    ensures { λ r. ⌜ working r ≡ roundsOf bits64 (now (words .entry)) (working v) 80 ⌝ }
 {
     let mut x = v;
     for t in 0..80 {
@@ -188,7 +189,7 @@ fn next(h: [u64; 8], b: &[u8]) -> [u64; 8]
             g: h[6],
             h: h[7],
         },
-        words,
+        &words,
     );
     sums(h, v)
 }

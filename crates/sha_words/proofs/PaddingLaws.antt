@@ -84,6 +84,11 @@ fill-whole b x p =
     let e : x % b + (b - x % b) ≡ b = omega (arith, mod-lt x p) in
     add-mod-mod x (b - x % b) b ∙ sym (mod-add-mod x b (b - x % b)) ∙ ap (λ (n : ℕ). n % b) e ∙ mod-self b
 
+-- 5.1: no fewer zeros do
+pub zeroBytes-least : (p : Width) (n : ℕ) → 0 < p .block → zeroBytes p n < p .block
+unfolding zeroBytes
+zeroBytes-least p n h = mod-lt (p .block - (n + 1 + 2 * p .bytes) % p .block) h
+
 -- 5.2: a padded message is whole blocks
 pub padded-whole : (p : Width) (m : List ℕ) → 0 < p .block → length (padded p m) % p .block ≡ 0
 unfolding padding zeroBytes

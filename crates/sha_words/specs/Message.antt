@@ -34,7 +34,7 @@ wordsAt b at n (suc k) = numberAt b at n ∷ wordsAt b (at + n) n k
 unfoldable pub zeroBytes : Width → ℕ → ℕ
 zeroBytes p n = (p .block - (n + 1 + 2 * p .bytes) % p .block) % p .block
 
--- the bit 1, the zeros, and the length in bits as two words
+-- the bit 1, the zeros, and the length in bits as two words, which hold it below 2 ^ 64 or 2 ^ 128
 unfoldable pub padding : Width → ℕ → List ℕ
 padding p n = (128 ∷ []) ++ zeros (zeroBytes p n) ++ bytesOf (2 * p .bytes) (8 * n)
 

@@ -1,7 +1,7 @@
 -- `lent_hash::feed` meets its contract. Assumes nothing.
 use mathlib.Core.Path.{sym, ap, _∙_}
 use denote.Ref.{now}
-use Rattle.lent_hash.specs.LentHash.{hashLeft, stateBytes, feedLeft}
+use Rattle.lent_hash.specs.LentHash.{hashLeft, stateBytes, hashFeedLeft}
 use Rattle.lent_hash.proofs.LentHashLaws.{size-taken, size-left}
 use mathlib.Core.Bool.{cond}
 use lib.Dec.{eqb}
@@ -14,7 +14,7 @@ use Rattle.lent_hash.proofs.feed.Statement.{statement}
 use Rattle.lent_hash.proofs.feed.Tie as tie
 
 returns : tie.Need-returns
-unfolding feedLeft
+unfolding hashFeedLeft
 returns c = size-left (now (c .before .before .before .args .h)) _ _ (c .if1 .taken)
 
 load-requires : tie.Need-load-requires
@@ -27,7 +27,7 @@ same-length : tie.Need-same-length
 same-length c = search needs
 
 returns-2 : tie.Need-returns-2
-unfolding feedLeft
+unfolding hashFeedLeft
 returns-2 c =
     let f = c .before .before in
     let l = f .before in
@@ -45,7 +45,7 @@ same-length-2 : tie.Need-same-length-2
 same-length-2 c = search needs
 
 returns-3 : tie.Need-returns-3
-unfolding feedLeft
+unfolding hashFeedLeft
 returns-3 c =
     let n = c .before .before .before .before .before in
     let f = n .before .before in

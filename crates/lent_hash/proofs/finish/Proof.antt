@@ -1,7 +1,7 @@
 -- `lent_hash::finish` meets its contract. Assumes nothing.
 use mathlib.Core.Path.{ap, _∙_}
 use denote.Ref.{now}
-use Rattle.lent_hash.specs.LentHash.{hashLeft, finishLeft}
+use Rattle.lent_hash.specs.LentHash.{hashLeft, hashFinishLeft}
 use Rattle.lent_hash.proofs.LentHashLaws.{size-taken, size-left}
 use Rattle.sha2.specs.declared.Digest.{Digest}
 use Rattle.sha2.specs.Hash.{finished}
@@ -10,7 +10,7 @@ use Rattle.lent_hash.proofs.finish.Statement.{statement}
 use Rattle.lent_hash.proofs.finish.Tie as tie
 
 returns : tie.Need-returns
-unfolding finishLeft
+unfolding hashFinishLeft
 returns c = size-left (now (c .before .before .before .args .h)) _ _ (c .if1 .taken)
 
 load-requires : tie.Need-load-requires
@@ -20,7 +20,7 @@ finish-requires : tie.Need-finish-requires
 finish-requires c κs = search needs
 
 returns-2 : tie.Need-returns-2
-unfolding finishLeft
+unfolding hashFinishLeft
 returns-2 c =
     let f = c .before in
     ap (λ (d : Digest). hashLeft (d .number) (d .bytes)) (f .finish .ensures ∙ ap finished (f .before .load .ensures))

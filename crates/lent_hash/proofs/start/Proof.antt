@@ -1,7 +1,7 @@
 -- `lent_hash::start` meets its contract. Assumes nothing.
 use mathlib.Core.Path.{ap, _∙_}
 use denote.Ref.{now}
-use Rattle.lent_hash.specs.LentHash.{hashLeft, stateBytes, startLeft}
+use Rattle.lent_hash.specs.LentHash.{hashLeft, stateBytes, hashStartLeft}
 use Rattle.lent_hash.proofs.LentHashLaws.{size-taken, size-left}
 use Rattle.sha2.specs.declared.Fed.{Fed}
 use borrow.Author.Needs.{needs}
@@ -9,7 +9,7 @@ use Rattle.lent_hash.proofs.start.Statement.{statement}
 use Rattle.lent_hash.proofs.start.Tie as tie
 
 returns : tie.Need-returns
-unfolding startLeft
+unfolding hashStartLeft
 returns c = size-left (now (c .before .before .args .h)) _ _ (c .if1 .taken)
 
 start-requires : tie.Need-start-requires
@@ -22,7 +22,7 @@ same-length : tie.Need-same-length
 same-length c = search needs
 
 returns-2 : tie.Need-returns-2
-unfolding startLeft
+unfolding hashStartLeft
 returns-2 c =
     let s = c .before .before .before .before .before in
     let e = s .before in

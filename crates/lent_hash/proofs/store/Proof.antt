@@ -16,11 +16,11 @@ use Rattle.lent_hash.proofs.store.Tie as tie
 sizes : (c : tie.Start) → (length (c .args .s .value) ≡ hSize) × (length (c .args .s .tail) ≡ blockMost)
 sizes c = (search needs, search needs)
 
-bytes-of-requires : tie.Need-bytes-of-requires
-bytes-of-requires c κs = search needs
+bytes-64-requires : tie.Need-bytes-64-requires
+bytes-64-requires c κs = search needs
 
-bytes-of-requires-2 : tie.Need-bytes-of-requires-2
-bytes-of-requires-2 c κs = search needs
+bytes-64-requires-2 : tie.Need-bytes-64-requires-2
+bytes-64-requires-2 c κs = search needs
 
 slice-aggregate-put-bytes : tie.Need-slice-aggregate-put-bytes
 slice-aggregate-put-bytes c = search needs
@@ -60,13 +60,13 @@ unfolding stateBytes
 returns c =
     let a = c .before .before .before .before .before .before .before .before .before .before .before .before .before .before .before .before .before .before .before .before .before .before .before .before .before .before .before .before .before .before in
     let s = a .args .s in
-    let total = c .before .before .before .before .before .before .before .before .before .before .before .before .before .before .before .before .before .before .before .before .before .before .before .before .before .before .before .before .bytes-of .ensures in
-    let held = c .before .before .before .before .before .before .before .before .before .before .before .before .before .before .before .before .before .before .before .before .before .before .before .before .before .before .before .bytes-of2 .ensures in
+    let total = c .before .before .before .before .before .before .before .before .before .before .before .before .before .before .before .before .before .before .before .before .before .before .before .before .before .before .before .before .bytes-64 .ensures in
+    let held = c .before .before .before .before .before .before .before .before .before .before .before .before .before .before .before .before .before .before .before .before .before .before .before .before .before .before .before .bytes-642 .ensures in
     c .before .before .put-bytes5 .ensures
     ∙ ap (λ (t : List ℕ). laid t 81 (s .tail)) (c .before .before .before .before .before .before .before .put-bytes4 .ensures
     ∙ ap (λ (t : List ℕ). laid t 17 (s .value)) (c .before .before .before .before .before .before .before .before .before .before .before .before .put-bytes3 .ensures
-    ∙ ap (λ (t : List ℕ). laid t 9 (c .before .before .before .before .before .before .before .before .before .before .before .before .before .before .before .before .before .before .before .before .before .before .before .before .before .before .before .bytes-of2 .result)) (c .before .before .before .before .before .before .before .before .before .before .before .before .before .before .before .before .before .put-bytes2 .ensures
-    ∙ ap (λ (t : List ℕ). laid t 1 (c .before .before .before .before .before .before .before .before .before .before .before .before .before .before .before .before .before .before .before .before .before .before .before .before .before .before .before .before .bytes-of .result)) (c .before .before .before .before .before .before .before .before .before .before .before .before .before .before .before .before .before .before .before .before .before .before .put-bytes .ensures))))
+    ∙ ap (λ (t : List ℕ). laid t 9 (c .before .before .before .before .before .before .before .before .before .before .before .before .before .before .before .before .before .before .before .before .before .before .before .before .before .before .before .bytes-642 .result)) (c .before .before .before .before .before .before .before .before .before .before .before .before .before .before .before .before .before .put-bytes2 .ensures
+    ∙ ap (λ (t : List ℕ). laid t 1 (c .before .before .before .before .before .before .before .before .before .before .before .before .before .before .before .before .before .before .before .before .before .before .before .before .before .before .before .before .bytes-64 .result)) (c .before .before .before .before .before .before .before .before .before .before .before .before .before .before .before .before .before .before .before .before .before .before .put-bytes .ensures))))
     ∙ laid-five (now (a .args .h)) (s .kind ∷ []) _ _ (s .value) (s .tail) refl (ap length total ∙ length-bytesOf 8 (s .total)) (ap length held ∙ length-bytesOf 8 (s .held)) (sizes a .0) (sizes a .1) (a .pre)
     ∙ (λ i. (s .kind ∷ []) ++ total i ++ held i ++ s .value ++ s .tail)
 
@@ -74,8 +74,8 @@ pub store-spec : {M : Type 1} → statement M
 store-spec =
     tie.close
     (tie.spec
-    bytes-of-requires
-    bytes-of-requires-2
+    bytes-64-requires
+    bytes-64-requires-2
     slice-aggregate-put-bytes
     put-bytes-requires
     slice-aggregate-put-bytes-2
