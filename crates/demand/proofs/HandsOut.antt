@@ -4,11 +4,9 @@ use mathlib.Core.Path.{_≡_, sym, ap, _∙_}
 use mathlib.Core.List.{List}
 use lib.ListN.{length, take}
 use denote.Ref.{now}
-use Rattle.limits.specs.Limits.{hSize, roomLeast}
+use Rattle.limits.specs.Limits.{roomLeast}
 use Rattle.buffers.specs.Bytes.{onto}
-use Rattle.sha_words.specs.Message.{sha2, sized}
-use Rattle.methods.specs.Rows.{rowOf}
-use Rattle.exchange.specs.Causes.{startCause}
+use Rattle.exchange.specs.Causes.{startCause, hOf}
 use Rattle.exchange.specs.Steps.{Call, secret, sign, verdict, number, countOf, secondOf, answered, secretAnswered, replyOf, started, startedRoom}
 use Rattle.exchange.specs.Book.{Book, opened, noted, lastBook, hashInput}
 use Rattle.exchange.specs.declared.Step.{Step}
@@ -61,7 +59,7 @@ secret-hands-out b₀ room₀ calls numbers κs a r s d t z =
     let h = secret-handed room₀ b (a .0) (now (a .1 .0)) (f .0) (f .1) (a .1 .1 .0) (now (a .1 .1 .1 .0)) (a .1 .1 .1 .1 .0) (now (a .1 .1 .1 .1 .1 .0)) (now (a .1 .1 .1 .1 .1 .1 .0)) (now (a .1 .1 .1 .1 .1 .1 .1 .0)) n in (
       c ∙ h .0,
       (λ i. take (c i) (t .1 i)) ∙ h .1,
-      k ∙ ap (λ (m : ℕ). sized hSize (sha2 (rowOf m .«digest_len») (hashInput (noted (length room₀) b q .fields)))) (book-method (length room₀) b₀ calls),
+      k ∙ ap (λ (m : ℕ). hOf m (hashInput (noted (length room₀) b q .fields))) (book-method (length room₀) b₀ calls),
     )
 
 sign-hands-out : SignHandsOut

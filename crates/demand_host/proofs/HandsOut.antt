@@ -4,10 +4,9 @@ use mathlib.Core.Path.{_≡_, sym, ap, subst, _∙_}
 use mathlib.Core.List.{List, [], _∷_}
 use lib.ListN.{length, getD, take, drop}
 use denote.Ref.{now}
-use Rattle.limits.specs.Limits.{hSize, roomLeast}
+use Rattle.limits.specs.Limits.{roomLeast}
 use Rattle.buffers.specs.Bytes.{onto}
-use Rattle.sha_words.specs.Message.{sha2, sized}
-use Rattle.methods.specs.Rows.{rowOf}
+use Rattle.exchange.specs.Causes.{hOf}
 use Rattle.exchange.specs.Steps.{Call, secret, sign, verdict, number, countOf, secondOf, answered, replyOf, started, startedRoom}
 use Rattle.exchange.specs.Book.{Book, opened, noted, lastBook, hashInput}
 use Rattle.exchange.specs.Demand.{lastExchange}
@@ -96,7 +95,7 @@ secret-hands-out b₀ room₀ calls numbers κs a r s d t z =
     let k = ap (λ (y : List ℕ). drop 1 y) (l .told-is) ∙ secret-hashed room₀ b e room (f .least) (f .sim) cl x kem kPq ks v n in (
       c ∙ h .0,
       (λ i. take (c i) (l .room-is i)) ∙ h .1,
-      k ∙ ap (λ (m : ℕ). sized hSize (sha2 (rowOf m .«digest_len») (hashInput (noted (length room₀) b q .fields)))) (book-method (length room₀) b₀ calls),
+      k ∙ ap (λ (m : ℕ). hOf m (hashInput (noted (length room₀) b q .fields))) (book-method (length room₀) b₀ calls),
     )
 
 sign-hands-out : SignHandsOut

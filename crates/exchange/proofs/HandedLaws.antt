@@ -8,15 +8,13 @@ use lib.ListN.{length, getD, take, drop}
 use lib.Seq.{take-at}
 use lib.Dec.{eqb}
 use borrow.Author.Tests.{eqb-true}
-use Rattle.limits.specs.Limits.{blobMost, hSize, roomLeast, server}
+use Rattle.limits.specs.Limits.{blobMost, roomLeast, server}
 use Rattle.limits.proofs.RangeLaws.{within-least}
 use Rattle.buffers.specs.Bytes.{onto}
 use Rattle.wire.proofs.CauseLaws.{unless-none}
-use Rattle.sha_words.specs.Message.{sha2, sized}
-use Rattle.methods.specs.Rows.{rowOf}
 use Rattle.methods.proofs.FormLaws.{s-least}
 use Rattle.messages.specs.Messages.{replyBytes, fieldOf}
-use Rattle.exchange.specs.Causes.{blobOk, replyCause, signCause, kOf}
+use Rattle.exchange.specs.Causes.{blobOk, replyCause, signCause, kOf, hOf}
 use Rattle.exchange.specs.Numbers.{Kind, accepted, refused, fault, kind, byKind}
 use Rattle.exchange.specs.Record.{kLength}
 use Rattle.exchange.specs.Steps.{Call, secret, sign, verdict, stepNo, fedCause, number, fieldsEnd, filled, taken, kRecord, replyOf, countOf, handedH, roomAfter}
@@ -87,14 +85,14 @@ module _ (room : List ℕ) (b : Book) (e : Exchange) (room′ : List ℕ) (h : r
   -- and H is the hash of the hash input, by the book's method
   pub secret-hashed : (cl : Classical) (x : List ℕ) (kem : Kem) (kPq ks s : List ℕ) → number e room′ (secret cl x kem kPq ks s) ≡ 0
       → handedH e room′ (secret cl x kem kPq ks s)
-      ≡ sized hSize (sha2 (rowOf (b .method) .«digest_len») (hashInput (noted (length room) b (secret cl x kem kPq ks s) .fields)))
+      ≡ hOf (b .method) (hashInput (noted (length room) b (secret cl x kem kPq ks s) .fields))
   secret-hashed cl x kem kPq ks s z =
       let q : Call = secret cl x kem kPq ks s in
       let l = live-of room b e room′ q h sim z in
       let r = step-accepted e room′ q z .1 in
       sym (handed-accepted e room′ q z)
-      ∙ (λ i. sized hSize (sha2 (rowOf (l .exchange i .method) .«digest_len») (take (countOf e room′ q) (r i))))
-      ∙ ap (λ (m : List ℕ). sized hSize (sha2 (rowOf (b .method) .«digest_len») m)) (secret-handed cl x kem kPq ks s z .1)
+      ∙ (λ i. hOf (l .exchange i .method) (take (countOf e room′ q) (r i)))
+      ∙ ap (hOf (b .method)) (secret-handed cl x kem kPq ks s z .1)
 
 -- the book keeps its method
 noted-method : (l : ℕ) (b : Book) (q : Call) → noted l b q .method ≡ b .method

@@ -1,5 +1,5 @@
 -- Demand 2 for INIT, REPLY and K: what is written is read with 0 and gives the same fields back. Assumes nothing.
-use Prim.Native.Nat.{ℕ, _+_, _≤_}
+use Prim.Native.Nat.{ℕ, _≤_}
 use mathlib.Core.Path.{_≡_, refl, sym, ap, _∙_, subst}
 use mathlib.Core.List.{List, _++_, append-assoc}
 use mathlib.Core.Bool.{true, false, _&&_, false≢true}

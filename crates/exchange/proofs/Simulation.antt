@@ -28,9 +28,8 @@ use Rattle.exchange.proofs.KindLaws.{kind-is-accepted, kind-fault, kind
 use Rattle.exchange.proofs.TableLaws.{OfEach, if-keeps, unless-keeps, fed-keeps}
 use Rattle.exchange.specs.Book.{Fields, Book, noFields, opened, stepsOf, firstCause, fieldsAfter, moved, dropped, noted, hasAll, hashInput, roomTold, isComplete, causes, lastBook}
 use Rattle.exchange.specs.Demand.{numbersOf, lastExchange, lastRoom, Never, AllOnes, SilentAfterFault, Held}
-use Rattle.exchange.specs.ExchangeTold.{lengthsIn, stagesOf, exchangeOf}
-use Rattle.exchange.specs.declared.Stage.{Stage}
-use Rattle.exchange.specs.declared.Stage.the-variants.{Started, CSent, InitRead, ReplyRead, SecretDone, Complete, Failed}
+use Rattle.exchange.specs.ExchangeTold.{lengthsIn, exchangeOf}
+use Rattle.exchange.specs.declared.Stage.the-variants.{Started, Failed}
 use Rattle.exchange.specs.declared.Exchange.{Exchange}
 use Rattle.exchange.specs.declared.Step.{Step}
 use Rattle.exchange.proofs.CauseFacts.{Base, FormedC, FormedS, Blob, Key, method-row, start-known, own-c-formed, init-formed, reply-formed, secret-known, own-formed, key-sized}

@@ -1,5 +1,5 @@
 -- What a step owes at its returns and knows where it is accepted. Assumes nothing.
-use Prim.Native.Nat.{ℕ, _+_, _-_, _≤_}
+use Prim.Native.Nat.{ℕ, _+_, _≤_}
 use mathlib.Core.Path.{_≡_, refl, sym, ap, _∙_}
 use mathlib.Core.List.{List}
 use mathlib.Core.Bool.{Bool, true, false, cond, _&&_}
@@ -12,8 +12,7 @@ use Rattle.limits.proofs.BoolLaws.{and-true}
 use Rattle.limits.proofs.RangeLaws.{within-most}
 use Rattle.buffers.specs.Bytes.{zeros, onto}
 use Rattle.wire.proofs.CauseLaws.{if-none, unless-none}
-use Rattle.sha_words.specs.Message.{sha2, sized}
-use Rattle.methods.specs.Rows.{rowOf, kMost}
+use Rattle.methods.specs.Rows.{kMost}
 use Rattle.methods.specs.Form.{lengthFits}
 use Rattle.methods.specs.declared.Method.{Method}
 use Rattle.methods.specs.Sound.{Sound}
@@ -21,7 +20,7 @@ use Rattle.methods.proofs.FormLaws.{length-most}
 use Rattle.transcript.specs.Fields.{fieldLength, fieldSize}
 use Rattle.transcript.proofs.RoomLaws.{fieldLength-most}
 use Rattle.transcript.proofs.FieldLaws.{fieldSize-fits, sizeSum-fits}
-use Rattle.exchange.specs.Causes.{blobOk, initCause, replyCause}
+use Rattle.exchange.specs.Causes.{blobOk, initCause, replyCause, hOf}
 use Rattle.exchange.specs.Numbers.{kind, byKind}
 use Rattle.exchange.specs.Record.{ended, clientNext, serverNext, nextStep, hasC, hasS, cFits, sFits, due}
 use Rattle.exchange.specs.Steps.{Call, init, reply, stepNo, fedCause, stepNumber, number, headEnd, fieldsEnd, headSize, fieldsSize, filled, taken, countOf, secondOf, exchangeAfter, roomAfter, answered, handedH, outputAfter, refusedStep, refusedRoom}
@@ -63,7 +62,7 @@ module _ (e : Exchange) (room : List ℕ) (q : Call) where
   handed-refused h = sym (kind-same (number e room q) _ (zeros hSize) h)
 
   pub handed-accepted : number e room q ≡ 0
-      → sized hSize (sha2 (rowOf (e .method) .«digest_len») (take (countOf e room q) (filled e room q))) ≡ handedH e room q
+      → hOf (e .method) (take (countOf e room q) (filled e room q)) ≡ handedH e room q
   unfolding handedH kind
   handed-accepted z = rw z
 

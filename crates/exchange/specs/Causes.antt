@@ -5,10 +5,10 @@ use mathlib.Core.List.{List, [], _∷_, _++_}
 use mathlib.Core.Bool.{Bool, true, false, cond, not, _&&_, _||_}
 use lib.ListN.{length, getD}
 use lib.Dec.{ltb, eqb}
-use Rattle.limits.specs.Limits.{versionMost, kexinitMost, blobMost, kPqSize, kSize, roomLeast, initLeast, replyLeast, methodLast, client, server}
+use Rattle.limits.specs.Limits.{versionMost, kexinitMost, blobMost, kPqSize, hSize, kSize, roomLeast, initLeast, replyLeast, methodLast, client, server}
 use Rattle.limits.specs.Range.{within}
 use Rattle.wire.specs.Causes.{causeIf, causeUnless, orElse}
-use Rattle.sha_words.specs.Message.{sha2}
+use Rattle.sha_words.specs.Message.{sha2, sized}
 use Rattle.messages.specs.Payload.{messageCause}
 use Rattle.messages.specs.Messages.{initLayout, replyLayout, fieldOf}
 use Rattle.methods.specs.Rows.{hybrid, rowOf}
@@ -129,6 +129,10 @@ secretCause role m cl x kem kPq ks s =
 -- K, in the method's form; a hybrid's digest is the method's hash of K_PQ and then X
 abbrev pub kOf : ℕ → List ℕ → List ℕ → List ℕ
 kOf m x kPq = kBytes (rowOf m .«k_form») x (sha2 (rowOf m .«digest_len») (kPq ++ x))
+
+-- H of a hash input, by the method's hash: 64 bytes, zeros behind the digest
+abbrev pub hOf : ℕ → List ℕ → List ℕ
+hOf m input = sized hSize (sha2 (rowOf m .«digest_len») input)
 
 -- ---- signature
 

@@ -9,11 +9,9 @@ use Rattle.buffers.specs.Bytes.{zeros, onto, over}
 use Rattle.wire.specs.Causes.{causeIf, causeUnless}
 use Rattle.wire.specs.Parts.{nothing}
 use Rattle.wire.specs.declared.Part.{Part}
-use Rattle.sha_words.specs.Message.{sha2, sized}
-use Rattle.methods.specs.Rows.{rowOf}
 use Rattle.messages.specs.Messages.{initBytes, replyBytes, fieldPart, fieldOf}
 use Rattle.transcript.specs.Fields.{field, fieldLength, fieldSize, sizeSum}
-use Rattle.exchange.specs.Causes.{startCause, ownCCause, initCause, replyCause, secretCause, signCause, verdictCause, kOf}
+use Rattle.exchange.specs.Causes.{startCause, ownCCause, initCause, replyCause, secretCause, signCause, verdictCause, kOf, hOf}
 use Rattle.exchange.specs.Numbers.{kind, byKind}
 use Rattle.exchange.specs.Record.{ended, kLength, due}
 use Rattle.exchange.specs.declared.Classical.{Classical}
@@ -172,7 +170,7 @@ answered e room q = record {
 unfoldable pub handedH : Exchange → List ℕ → Call → List ℕ
 handedH e room q =
     byKind (kind (number e room q))
-    (sized hSize (sha2 (rowOf (e .method) .«digest_len») (take (countOf e room q) (filled e room q))))
+    (hOf (e .method) (take (countOf e room q) (filled e room q)))
     (zeros hSize)
     (zeros hSize)
 

@@ -30,7 +30,7 @@ use Rattle.secret.specs.declared.Secret.{Secret}
 use Rattle.secret.proofs.SecretLaws.{kept-fits, drop-zeros}
 use Rattle.transcript.specs.Fields.{field, fieldLength, around, fieldSize}
 use Rattle.transcript.proofs.RoomLaws.{length-field, take-onto}
-use Rattle.exchange.specs.Causes.{methodOk, secretCause, ownOk, kOf}
+use Rattle.exchange.specs.Causes.{methodOk, secretCause, ownOk, kOf, hOf}
 use Rattle.exchange.specs.Record.{noLengths}
 use Rattle.exchange.specs.Steps.{Call, fedCause, number, headEnd, fieldsEnd, standingC, filled, withS, taken, countOf, secondOf, answered, roomAfter, secret, kRecord, withStage, headSize, fieldsSize}
 use Rattle.exchange.specs.declared.Stage.the-variants.{SecretDone}
@@ -108,7 +108,7 @@ module _ (m : ℕ) (f : KForm) (x kPq : List ℕ) (r : f ≡ rowOf m .«k_form»
       λ i. kBytes (r i) x (c i)
 
 pub hash-is : (m : ℕ) (a b room : List ℕ) (n len : ℕ) (d : Digest) → methodOk m ≡ true → n ≤ hashMost → n ≤ length room → len ≡ rowOf m .«digest_len» → a ≡ take n room → b ≡ []
-    → d ≡ digested len (a ++ b) → d .bytes ≡ sized hSize (sha2 (rowOf m .«digest_len») (take n room))
+    → d ≡ digested len (a ++ b) → d .bytes ≡ hOf m (take n room)
 hash-is m a b room n len d ok h k l p q g =
     let t = take n room in
     let e = (λ i. digested (l i) (p i ++ q i)) ∙ ap (digested (rowOf m .«digest_len»)) (append-nil t) in
@@ -227,13 +227,13 @@ module _ (e : Exchange) (room : List ℕ) (cl : Classical) (x : List ℕ) (kem :
 
     -- the count, and H over as much of the room as it is left
     told-is : (n : ℕ) (left : List ℕ) → n ≡ answered e room (secret cl x kem kPq ks s) .count → left ≡ roomAfter e room (secret cl x kem kPq ks s)
-        → n ∷ sized hSize (sha2 (rowOf (e .method) .«digest_len») (take n left)) ≡ tells e room (secret cl x kem kPq ks s)
+        → n ∷ hOf (e .method) (take n left) ≡ tells e room (secret cl x kem kPq ks s)
     unfolding tells
     told-is n left c r =
         let a = step-accepted e room (secret cl x kem kPq ks s) z in
         let k = c ∙ ap (λ (y : Step). y .count) (sym (a .0)) in
         let f = r ∙ sym (a .1) in
-        let h = (λ i. sized hSize (sha2 (rowOf (e .method) .«digest_len») (take (k i) (f i)))) ∙ handed-accepted e room (secret cl x kem kPq ks s) z in
+        let h = (λ i. hOf (e .method) (take (k i) (f i))) ∙ handed-accepted e room (secret cl x kem kPq ks s) z in
         λ i. c i ∷ h i
 
     filled-client : (e .role ≡ server → ⊥) → over room (fieldsEnd (e .lens)) (kOf (e .method) x kPq) ≡ filled e room (secret cl x kem kPq ks s)
@@ -324,7 +324,7 @@ module _ (b room : List ℕ) (cl : Classical) (x : List ℕ) (kem : Kem) (kPq ks
 
   -- then all is as the step has it, and the count is small
   pub record Done (count : ℕ) (left ex : List ℕ) : Type 0 where
-    pub told : count ∷ sized hSize (sha2 (rowOf (decoded b .method) .«digest_len») (take count left)) ≡ tells (decoded b) room q
+    pub told : count ∷ hOf (decoded b .method) (take count left) ≡ tells (decoded b) room q
     pub room-is : left ≡ roomAfter (decoded b) room q
     pub ex-is : ex ≡ encoded (taken (decoded b) q)
 

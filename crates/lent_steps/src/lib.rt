@@ -12,14 +12,12 @@ ghost use mathlib.Core.List.{[], _∷_, _++_};
 ghost use mathlib.Core.Bool.{true, cond};
 ghost use lib.Dec.{eqb};
 ghost use lib.ListN.{length, take, set};
-ghost use Rattle.limits.specs.Limits.{hSize, hashMost, server};
+ghost use Rattle.limits.specs.Limits.{hashMost, server};
 ghost use Rattle.buffers.specs.Bytes.{onto, laid};
 ghost use Rattle.wire.specs.Parts.{part, inside, bytesAt};
-ghost use Rattle.sha_words.specs.Message.{sha2, sized};
-ghost use Rattle.methods.specs.Rows.{rowOf};
 ghost use Rattle.secret.specs.Secret.{kept};
 ghost use Rattle.transcript.specs.Fields.{field, fieldSize, around};
-ghost use Rattle.exchange.specs.Causes.{methodOk, kOf};
+ghost use Rattle.exchange.specs.Causes.{methodOk, kOf, hOf};
 ghost use Rattle.exchange.specs.Steps.{HeadFits, headSize, fieldsSize, secret as secretStep};
 ghost use Rattle.stored.specs.Stored.{bySize, lengthsTold};
 ghost use Rattle.changes.specs.Changes.{put16};
@@ -88,7 +86,7 @@ fn join_own(ex: &mut [u8], room: &mut [u8], role: u8, ks: &[u8], s: &[u8])
     lent::with_s(ex, room, stored::SECRET_DONE, ks, s);
 }
 
-// K in the method's form. Only a hybrid's is by the hash, of K_PQ and then X: K of a number has no digest to look at.
+// K in the method's form. Only a hybrid's is by the hash, of K_PQ and then X: where K is a number, what stands in the digest's place is not read.
 fn key_of(method: u8, x: &[u8], k_pq: &[u8]) -> Secret
     requires { ⌜ (methodOk method ≡ true) × (length (now «k_pq») + length (now x) ≤ hashMost) ⌝ }
     ensures { λ r. ⌜ r ≡ kept (kOf method (now (x .entry)) (now («k_pq» .entry))) ⌝ }
@@ -121,7 +119,7 @@ fn join_key(ex: &mut [u8], room: &mut [u8], key: Secret) -> usize
 // H with zeros after it: the method's hash of the room's first n bytes.
 fn h_of(method: u8, room: &[u8], n: usize) -> [u8; limits::H_SIZE]
     requires { ⌜ (methodOk method ≡ true) × (n ≤ length (now room)) × (n ≤ hashMost) ⌝ }
-    ensures { λ r. ⌜ r ≡ sized hSize (sha2 (rowOf method .«digest_len») (take n (now (room .entry)))) ⌝ }
+    ensures { λ r. ⌜ r ≡ hOf method (take n (now (room .entry))) ⌝ }
 {
     let d = sha2::hash_of(methods::digest_len(method), &room[..n], &room[..0]);
     d.bytes
@@ -130,7 +128,7 @@ fn h_of(method: u8, room: &[u8], n: usize) -> [u8; limits::H_SIZE]
 // What an accepted step tells: the hash input's count, and H.
 fn tell(method: u8, room: &[u8], n: usize, count: &mut u64, h: &mut [u8; limits::H_SIZE])
     requires { ⌜ (methodOk method ≡ true) × (n ≤ length (now room)) × (n ≤ hashMost) ⌝ }
-    ensures { λ _. ⌜ now (count .exit) ∷ now (h .exit) ≡ n ∷ sized hSize (sha2 (rowOf method .«digest_len») (take n (now (room .entry)))) ⌝ }
+    ensures { λ _. ⌜ now (count .exit) ∷ now (h .exit) ≡ n ∷ hOf method (take n (now (room .entry))) ⌝ }
 {
     *count = n as u64;
     *h = h_of(method, room, n);

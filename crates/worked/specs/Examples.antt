@@ -11,9 +11,7 @@ use Rattle.wire.specs.Strings.{string, strings}
 use Rattle.mpint.specs.Mpint.{mpint, readMpint}
 use Rattle.mpint.specs.Value.{value}
 use Rattle.methods.specs.Ascii.{ascii}
-use Rattle.methods.specs.Rows.{rowOf}
-use Rattle.secret.specs.Secret.{kBytes}
-use Rattle.exchange.specs.Causes.{replyCause, secretCause}
+use Rattle.exchange.specs.Causes.{replyCause, secretCause, kOf}
 use Rattle.exchange.specs.declared.Classical.the-variants.{Given}
 use Rattle.exchange.specs.declared.Kem.the-variants.{Absent, Done}
 
@@ -51,7 +49,7 @@ pub record Blanks : Type 0 where
 
 -- K from X in a method of numbers
 abbrev pub kIn : ℕ → List ℕ → List ℕ
-kIn method x = kBytes (rowOf method .«k_form») x []
+kIn method x = kOf method x []
 
 -- the length of a string's body, and its first n bytes
 abbrev pub bodyIs : ℕ → List ℕ → Result

@@ -6,11 +6,9 @@ use mathlib.Core.List.{[], _∷_}
 use lib.ListN.{length, take}
 use denote.Ref.{now}
 use native.Mathlib.Omega.{arith}
-use Rattle.limits.specs.Limits.{hSize, roomLeast}
-use Rattle.sha_words.specs.Message.{sha2, sized}
-use Rattle.methods.specs.Rows.{rowOf}
+use Rattle.limits.specs.Limits.{roomLeast}
 use Rattle.secret.specs.Secret.{kept}
-use Rattle.exchange.specs.Causes.{methodOk, kOf}
+use Rattle.exchange.specs.Causes.{methodOk, kOf, hOf}
 use Rattle.exchange.specs.Steps.{secret, kRecord, fedCause}
 use Rattle.stored.specs.Stored.{decoded}
 use Rattle.lent.proofs.LentLaws.{number-lent, call-refused, call-accepted, Opened, opened}
@@ -132,7 +130,7 @@ returns-2 c =
     let o = accepts (t .before .before .before .before .before .before .before .before .before .before .before .before .before .before .before .before) in
     let d = done t .0 in
     let n = t .before .before .before .before .before .join-key .result + t .before .before .before .before .before .before .before .before .before .before .before .before .before .before .before .key-of .result .len in
-    let h = c .tell .ensures ∙ ap (λ (m : ℕ). n ∷ sized hSize (sha2 (rowOf m .«digest_len») (take n (t .before .before .before .before .before .join-key .last .1 .0)))) (method-is (t .before .before .before .before .before .before .before .before .before .before .before .before .before .before .before .before)) ∙ d .told in
+    let h = c .tell .ensures ∙ ap (λ (m : ℕ). n ∷ hOf m (take n (t .before .before .before .before .before .join-key .last .1 .0))) (method-is (t .before .before .before .before .before .before .before .before .before .before .before .before .before .before .before .before)) ∙ d .told in
     call-accepted (now (a .ex)) (now (a .room)) (secret (a .cl) (now (a .x)) (a .kem) (now (a .k-pq)) (now (a .ks)) (now (a .s))) [] (o .fitting) (o .accepts) _ _ _ _ h (d .ex-is) (d .room-is) refl
 
 pub take-secret-spec : {M : Type 1} → statement M
