@@ -38,9 +38,9 @@
 
    A HASH
    - It is a buffer of CASTULFRISA_HASH_SIZE bytes, the caller's, which only the library reads and writes: castulfrisa_hash_start makes it,
-     castulfrisa_hash_feed changes it in place. A copy is a hash of its own. Its kind and the two lengths in it are judged at every call; a
-     buffer where they do not fit, or of another length, is answered 4 and stays. It holds bytes of what it was fed: castulfrisa_wipe it
-     where they are secret. An exchange needs none: castulfrisa_take_secret hands out H. */
+     castulfrisa_hash_feed changes it in place. A copy is a hash of its own. castulfrisa_hash_feed and castulfrisa_hash_finish judge its kind
+     and the two lengths in it: a buffer where they do not fit is answered 4 and stays, as is one of another length by every call. It holds
+     bytes of what it was fed: castulfrisa_wipe it where they are secret. An exchange needs none: castulfrisa_take_secret hands out H. */
 #ifndef CASTULFRISA_H
 #define CASTULFRISA_H
 

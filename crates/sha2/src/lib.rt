@@ -400,37 +400,35 @@ fn made(kind: u8, value: [u8; limits::H_SIZE]) -> Hash
 
 // ---- finish
 
-// A block with the count of bits of total bytes laid in from `at` on. Three bytes hold it.
-fn counted(t: [u8; limits::BLOCK_MOST], at: usize, total: usize) -> [u8; limits::BLOCK_MOST]
-    requires { ⌜ (at + 3 ≤ blockMost) × (total ≤ hashMost) ⌝ }
-    ensures { λ r. ⌜ r ≡ laid t at (bytesOf 3 (8 * total)) ⌝ }
+// Lays the count of bits of total bytes into a block, from `at` on. Three bytes hold it.
+fn put_count(t: &mut [u8], at: usize, total: usize)
+    requires { ⌜ total ≤ hashMost ⌝ }
+    ensures { λ _. ⌜ now (t .exit) ≡ laid (now (t .entry)) at (bytesOf 3 (8 * total)) ⌝ }
 {
     let bits = 8 * total;
     let more = bits / 256;
     let most = more / 256;
     let n = [(most % 256) as u8, (more % 256) as u8, (bits % 256) as u8];
-    let mut out = t;
-    buffers::put_bytes(&mut out, at, &n);
-    out
+    buffers::put_bytes(t, at, &n);
 }
 
 // The hash value after the padding. The padding block is 128 zero bytes before what waits and the bit 1 are laid in; where the count does
-// not fit behind them, it goes into another.
+// not fit behind them, the block is hashed and filled with zeros again.
 fn last(kind: u8, value: [u8; limits::H_SIZE], before: &[u8], total: usize) -> [u8; limits::H_SIZE]
     requires { ⌜ Ending kind (now before) total ⌝ }
     ensures { λ r. ⌜ r ≡ valueAfter (widthOf kind) value (now (before .entry) ++ padding (widthOf kind) total) ⌝ }
 {
     let size = block_of(kind);
     let one = [128u8];
-    let open = joined(before, &one);
+    let mut b = joined(before, &one);
     let at = size - 3;
     if before.len() < size - size / 8 {
-        let b = counted(open, at, total);
+        put_count(&mut b, at, total);
         return blocks(kind, value, &b[0..size]);
     }
-    let x = blocks(kind, value, &open[0..size]);
-    let zero = [0u8; limits::BLOCK_MOST];
-    let b = counted(zero, at, total);
+    let x = blocks(kind, value, &b[0..size]);
+    b = [0u8; limits::BLOCK_MOST];
+    put_count(&mut b, at, total);
     blocks(kind, x, &b[0..size])
 }
 

@@ -97,19 +97,17 @@ fn mix(w2: u32, w7: u32, w15: u32, w16: u32) -> u32
     )
 }
 
-// The message schedule.
-fn schedule(b: &[u8]) -> [u32; 64]
-    requires { ⌜ 64 ≤ length (now b) ⌝ }
-    ensures { λ r. ⌜ r ≡ wordsOf bits32 (now (b .entry)) 64 ⌝ }
+// The message schedule, into words that are lent: an array that is handed back would stand on the stack twice.
+fn schedule(m: &mut [u32], b: &[u8])
+    requires { ⌜ (length (now m) ≡ 64) × (64 ≤ length (now b)) ⌝ }
+    ensures { λ _. ⌜ now (m .exit) ≡ wordsOf bits32 (now (b .entry)) 64 ⌝ }
 {
-    let mut m = [0u32; 64];
     for i in 0..16 {
         m[i] = word(b, 4 * i);
     }
     for t in 16..64 {
         m[t] = mix(m[t - 2], m[t - 7], m[t - 15], m[t - 16]);
     }
-    m
 }
 
 fn round(v: Variables, k: u32, w: u32) -> Variables
@@ -168,7 +166,8 @@ fn next(h: [u32; 8], b: &[u8]) -> [u32; 8]
     requires { ⌜ 64 ≤ length (now b) ⌝ }
     ensures { λ r. ⌜ r ≡ nextOf bits32 h (now (b .entry)) ⌝ }
 {
-    let words = schedule(b);
+    let mut words = [0u32; 64];
+    schedule(&mut words, b);
     let v = rounds(
         Variables {
             a: h[0],

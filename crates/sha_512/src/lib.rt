@@ -106,19 +106,17 @@ fn mix(w2: u64, w7: u64, w15: u64, w16: u64) -> u64
     )
 }
 
-// The message schedule.
-fn schedule(b: &[u8]) -> [u64; 80]
-    requires { ⌜ 128 ≤ length (now b) ⌝ }
-    ensures { λ r. ⌜ r ≡ wordsOf bits64 (now (b .entry)) 80 ⌝ }
+// The message schedule, into words that are lent: an array that is handed back would stand on the stack twice.
+fn schedule(m: &mut [u64], b: &[u8])
+    requires { ⌜ (length (now m) ≡ 80) × (128 ≤ length (now b)) ⌝ }
+    ensures { λ _. ⌜ now (m .exit) ≡ wordsOf bits64 (now (b .entry)) 80 ⌝ }
 {
-    let mut m = [0u64; 80];
     for i in 0..16 {
         m[i] = word(b, 8 * i);
     }
     for t in 16..80 {
         m[t] = mix(m[t - 2], m[t - 7], m[t - 15], m[t - 16]);
     }
-    m
 }
 
 fn round(v: Variables, k: u64, w: u64) -> Variables
@@ -177,7 +175,8 @@ fn next(h: [u64; 8], b: &[u8]) -> [u64; 8]
     requires { ⌜ 128 ≤ length (now b) ⌝ }
     ensures { λ r. ⌜ r ≡ nextOf bits64 h (now (b .entry)) ⌝ }
 {
-    let words = schedule(b);
+    let mut words = [0u64; 80];
+    schedule(&mut words, b);
     let v = rounds(
         Variables {
             a: h[0],

@@ -54,11 +54,11 @@ sub-at c = known-size (c .before .before) .three
 sub-if1 : tie.Need-sub-if1
 sub-if1 c = search needs
 
-counted-requires : tie.Need-counted-requires
-counted-requires c κs =
-    let s = c .before .before .before in
-    let k = known-size s in
-    (omega (arith, k .three, k .most), s .before .before .pre .most)
+slice-aggregate-put-count : tie.Need-slice-aggregate-put-count
+slice-aggregate-put-count c = search needs
+
+put-count-requires : tie.Need-put-count-requires
+put-count-requires c κs = search needs
 
 sub-blocks : tie.Need-sub-blocks
 sub-blocks c = search needs
@@ -68,23 +68,22 @@ part-blocks-start c = search needs
 
 part-blocks-end : tie.Need-part-blocks-end
 part-blocks-end c =
-    let l : length (c .before .counted .result) ≡ blockMost = search needs in
-    omega (arith, known-size (c .before .before .before .before .before) .most)
+    let j : length (c .before .before .before .before .before .joined .result) ≡ blockMost = search needs in
+    omega (arith, c .before .before .put-count .kept .0, known-size (c .before .before .before .before .before .before .before) .most)
 
 blocks-requires : tie.Need-blocks-requires
 blocks-requires c κs = search needs
 
 returns : tie.Need-returns
 returns c =
-    let n = c .before .before .before in
-    let j = n .before .before in
-    let s = j .before .before in
+    let n = c .before .before .before .before in
+    let j = c .before .before .before .before .before .before .before in
+    let s = c .before .before .before .before .before .before .before .before .before in
     let a = s .before .before in
-    let k = known-size s in
     let count = bytesOf 3 (8 * a .args .total) in
-    last-one (a .args .kind) (a .args .value) (now (a .args .before)) (a .args .total) (a .pre) (n .counted .result) (c .blocks2 .result) (s .block-of .result - 0)
+    last-one (a .args .kind) (a .args .value) (now (a .args .before)) (a .args .total) (a .pre) (n .put-count .last .0) (c .blocks2 .result) (s .block-of .result - 0)
     (omega (arith, s .block-of .ensures)) (omega (arith, s .block-of .ensures, sizes-of (a .args .kind) .words))
-    (n .counted .ensures ∙ ap (λ (l : List ℕ). laid l (s .block-of .result - 3) count) (j .joined .ensures)
+    (n .put-count .ensures ∙ ap (λ (l : List ℕ). laid l (s .block-of .result - 3) count) (j .joined .ensures)
     ∙ ap (λ (m : ℕ). laid (sized blockMost (now (a .args .before) ++ (128 ∷ []))) (m - 3) count) (s .block-of .ensures))
     (c .blocks2 .ensures)
 
@@ -102,11 +101,11 @@ part-blocks-end-2 c =
 blocks-requires-2 : tie.Need-blocks-requires-2
 blocks-requires-2 c κs = search needs
 
-counted-requires-2 : tie.Need-counted-requires-2
-counted-requires-2 c κs =
-    let s = c .before .before .before .before .before .before in
-    let k = known-size s in
-    (omega (arith, k .three, k .most), s .before .before .pre .most)
+slice-aggregate-put-count-2 : tie.Need-slice-aggregate-put-count-2
+slice-aggregate-put-count-2 c = search needs
+
+put-count-requires-2 : tie.Need-put-count-requires-2
+put-count-requires-2 c κs = search needs
 
 sub-blocks-3 : tie.Need-sub-blocks-3
 sub-blocks-3 c = search needs
@@ -115,26 +114,24 @@ part-blocks-start-3 : tie.Need-part-blocks-start-3
 part-blocks-start-3 c = search needs
 
 part-blocks-end-3 : tie.Need-part-blocks-end-3
-part-blocks-end-3 c =
-    let l : length (c .before .counted2 .result) ≡ blockMost = search needs in
-    omega (arith, known-size (c .before .before .before .before .before .before .before .before) .most)
+part-blocks-end-3 c = omega (arith, c .before .before .put-count2 .kept .0, known-size (c .before .before .before .before .before .before .before .before .before .before) .most)
 
 blocks-requires-3 : tie.Need-blocks-requires-3
 blocks-requires-3 c κs = search needs
 
 returns-2 : tie.Need-returns-2
 returns-2 c =
-    let n = c .before .before .before in
-    let x = n .before in
-    let j = x .before .before .before .before in
-    let s = j .before .before in
+    let n = c .before .before .before .before in
+    let x = c .before .before .before .before .before .before in
+    let j = c .before .before .before .before .before .before .before .before .before .before in
+    let s = c .before .before .before .before .before .before .before .before .before .before .before .before in
     let a = s .before .before in
     let k = known-size s in
     let count = bytesOf 3 (8 * a .args .total) in
-    last-two (a .args .kind) (a .args .value) (now (a .args .before)) (a .args .total) (a .pre) (j .joined .result) (n .counted2 .result) (x .blocks3 .result) (c .blocks4 .result) (s .block-of .result - 0)
+    last-two (a .args .kind) (a .args .value) (now (a .args .before)) (a .args .total) (a .pre) (j .joined .result) (n .put-count2 .last .0) (x .blocks3 .result) (c .blocks4 .result) (s .block-of .result - 0)
     (omega (arith, s .block-of .ensures)) (omega (arith, s .block-of .ensures, sizes-of (a .args .kind) .words)) (k .in-block)
     (j .joined .ensures) (x .blocks3 .ensures)
-    (n .counted2 .ensures ∙ ap (λ (l : List ℕ). laid l (s .block-of .result - 3) count) (sized-none blockMost)
+    (n .put-count2 .ensures ∙ ap (λ (l : List ℕ). laid l (s .block-of .result - 3) count) (sized-none blockMost)
     ∙ ap (λ (m : ℕ). laid (sized blockMost []) (m - 3) count) (s .block-of .ensures))
     (c .blocks4 .ensures)
 
@@ -147,7 +144,8 @@ last-spec =
     joined-requires
     sub-at
     sub-if1
-    counted-requires
+    slice-aggregate-put-count
+    put-count-requires
     sub-blocks
     part-blocks-start
     part-blocks-end
@@ -157,7 +155,8 @@ last-spec =
     part-blocks-start-2
     part-blocks-end-2
     blocks-requires-2
-    counted-requires-2
+    slice-aggregate-put-count-2
+    put-count-requires-2
     sub-blocks-3
     part-blocks-start-3
     part-blocks-end-3
