@@ -2,7 +2,7 @@
    C++, 32 and 64 bits.
 
    It reads and writes the messages, negotiates, encodes the shared secret, builds the hash input and hashes it. Random numbers, curve and
-   KEM primitives, signatures and known-host lists are the host's; so are memcpy and memset, which the library calls. It keeps nothing: no
+   KEM primitives, signatures and known-host lists are the host's; so are memcpy, memmove and memset, which the library calls. It keeps nothing: no
    memory, no pointer, no state. It takes any bytes and any call at any time, and every call ends.
 
    WHAT CROSSES

@@ -2,7 +2,7 @@
 """The archives for other machines, each run under qemu and measured (`make targets`; machines.py says how a program for each is made).
 
 Every archive: the header's test, the stack's, the bench on a script with every answer held to plain Rust's, document 01's examples and the
-captured exchanges through the bench, a client and a server at their largest; and it calls nothing but C's memcpy and memset.
+captured exchanges through the bench, a client and a server at their largest; and it calls nothing but C's memcpy, memmove and memset.
 host/example.c, a client and a server on OpenSSL's libcrypto, for the machines that Debian has a libcrypto for: not riscv64 in Debian 12.
 
 usage: targets.py SCRIPT ANSWERS
@@ -20,7 +20,7 @@ from machines import MACHINES, ROLES, VARIANTS, Carried, table
 
 OTHERS = [m for m in MACHINES.values() if m.emulator]
 HEADER = ['tests/header_test.c', 'tests/header_steps.c', 'tests/header_32.c']
-CALLED = {'memcpy', 'memset'}
+CALLED = {'memcpy', 'memmove', 'memset'}
 LIBCRYPTO = {'aarch64': ('arm64', 'aarch64-linux-gnu'), 'armv7': ('armhf', 'arm-linux-gnueabihf'), 'cortex-m3': ('armhf', 'arm-linux-gnueabihf')}
 FOLDER = ROOT / 'build/targets'
 

@@ -6,28 +6,13 @@ use mathlib.Core.Bool.{Bool, true, false, _&&_}
 use lib.ListN.{length, getD}
 use lib.Dec.{ltb, eqb}
 use borrow.Author.Tests.{lt-ltb, le-ltb}
-use Rattle.limits.specs.Limits.{versionMost, kexinitMost, kSize, roomLeast, initLeast, replyLeast, methodLast, client, server}
+use Rattle.limits.specs.Limits.{kexinitMost, kSize, roomLeast, initLeast, replyLeast, methodLast, client, server}
 use Rattle.limits.proofs.RangeLaws.{within-is, within-low, within-high}
 use Rattle.wire.specs.Causes.{causeIf, causeUnless}
 use Rattle.wire.proofs.CauseLaws.{if-holds, if-fails, unless-holds, unless-fails}
 use Rattle.methods.specs.Rows.{rowOf}
 use Rattle.methods.specs.Form.{formed}
-use Rattle.exchange.specs.Causes.{plain, versionOk, kexinitOk, blobOk, methodOk, roleOk, startCause, ownCCause, signCause, verdictCause}
-
--- ---- versionOk
-
-module _ (v : List ℕ) where
-  pub version-empty : length v < 1 → false ≡ versionOk v
-  unfolding versionOk
-  version-empty h = rw (within-low 1 versionMost (length v) h)
-
-  pub version-long : versionMost < length v → false ≡ versionOk v
-  unfolding versionOk
-  version-long h = rw (within-high 1 versionMost (length v) h)
-
-  pub version-plain : 1 ≤ length v → length v ≤ versionMost → plain v ≡ versionOk v
-  unfolding versionOk
-  version-plain h k = rw (within-is 1 versionMost (length v) h k)
+use Rattle.exchange.specs.Causes.{versionOk, kexinitOk, blobOk, methodOk, roleOk, startCause, ownCCause, signCause, verdictCause}
 
 -- ---- kexinitOk
 

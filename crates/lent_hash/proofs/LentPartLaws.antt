@@ -7,7 +7,7 @@ use mathlib.Core.Bool.{Bool, true, false, cond, _&&_, and-eq-true-iff}
 use native.Mathlib.Omega.{arith}
 use lib.Dec.{leb, eqb}
 use lib.ListN.{length, length-append}
-use borrow.Author.Tests.{leb-true, eqb-true}
+use borrow.Author.Tests.{leb-true}
 use Rattle.limits.specs.Limits.{hashMost, hSize, hashSize}
 use Rattle.buffers.specs.Bytes.{Bytes}
 use Rattle.sha_words.specs.Constants.{known}
@@ -97,12 +97,12 @@ unfolding fresh
 fresh-typed kind = record { total = omega arith; held = omega arith; value = fresh-value kind; tail = refl }
 
 started-typed : (kind : ℕ) → Typed (started kind .hash)
-unfolding started blank
+unfolding started
 started-typed kind = by-test (known kind)
   where
     by-test : (t : Bool) → Typed (cond {A = Fed} t (record { number = 0; hash = fresh kind }) (record { number = 4; hash = blank }) .hash)
     by-test true = fresh-typed kind
-    by-test false = record { total = omega arith; held = omega arith; value = refl; tail = refl }
+    by-test false = fresh-typed 0
 
 -- ---- two parts
 

@@ -2,7 +2,7 @@
 use Prim.Native.Nat.{ℕ, _+_, _-_, _%_, _≤_, _<_}
 use mathlib.Core.Path.{_≡_, refl, sym, ap, _∙_}
 use mathlib.Core.List.{List, [], _∷_}
-use mathlib.Core.Bool.{Bool, true, false, not, _&&_, and-eq-true-iff}
+use mathlib.Core.Bool.{Bool, true, false, _&&_, and-eq-true-iff}
 use mathlib.Core.Logic.{_⊎_, ⊎-elim}
 use native.Mathlib.Omega.{arith}
 use native.Mathlib.Nat.{mod-lt}
@@ -18,17 +18,9 @@ use Rattle.sha_words.proofs.PaddingLaws.{sizes-of}
 use Rattle.sha2.specs.declared.Hash.{Hash}
 use Rattle.sha2.specs.declared.Fed.{Fed}
 use Rattle.sha2.specs.declared.Digest.{Digest}
-use Rattle.sha2.specs.Hash.{fresh, blank, initialValue, started, fits, grown, taken, fed, lastValue, finished}
+use Rattle.sha2.specs.Hash.{fresh, initialValue, started, fits, grown, taken, fed, lastValue, finished}
 
--- ---- not
-
-pub not-true : (b : Bool) → not b ≡ true → b ≡ false
-not-true true e = sym e
-not-true false e = refl
-
-pub not-false : (b : Bool) → not b ≡ false → b ≡ true
-not-false true e = refl
-not-false false e = sym e
+-- ---- bounds
 
 -- a bound, less a part of the sum
 pub leb-moved : (a b n : ℕ) → a ≤ n → leb b (n - a) ≡ leb (a + b) n
@@ -83,7 +75,7 @@ made kind v = record { kind = kind; total = 0; held = 0; value = v; tail = zeros
 
 pub start-unknown : (kind : ℕ) (v : List ℕ) (s : Hash) → known kind ≡ false → v ≡ initialValue kind → s ≡ made 0 v
     → _≡_ {A = Fed} (record { number = 4; hash = s }) (started kind)
-unfolding started blank initialValue
+unfolding started fresh initialValue
 start-unknown kind v s h ev es =
     let z : v ≡ zeros hSize = ev ∙ rw h in
     ap (λ (x : Hash). record { number = 4; hash = x }) (es ∙ ap (made 0) z) ∙ rw h
@@ -91,7 +83,7 @@ start-unknown kind v s h ev es =
 pub start-known : (kind : ℕ) (v : List ℕ) (s : Hash) → known kind ≡ true → v ≡ initialValue kind → s ≡ made kind v
     → _≡_ {A = Fed} (record { number = 0; hash = s }) (started kind)
 unfolding started fresh
-start-known kind v s h ev es = ap (λ (x : Hash). record { number = 0; hash = x }) (es ∙ ap (made kind) (ev ∙ initial-known kind h)) ∙ rw h
+start-known kind v s h ev es = ap (λ (x : Hash). record { number = 0; hash = x }) (es ∙ ap (made kind) ev) ∙ rw h
 
 -- ---- fed
 

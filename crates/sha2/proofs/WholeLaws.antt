@@ -23,8 +23,8 @@ use Rattle.sha_words.proofs.DigestLaws.{length-after, padded-least, kind-most, 
 use Rattle.sha2.specs.declared.Hash.{Hash}
 use Rattle.sha2.specs.declared.Fed.{Fed}
 use Rattle.sha2.specs.declared.Digest.{Digest}
-use Rattle.sha2.specs.Hash.{fresh, started, fits, grown, waiting, taken, fed, lastValue, finished, digested, fedAll, AllTaken, allOf}
-use Rattle.sha2.proofs.StateLaws.{fitting, fed-taken, finished-fit}
+use Rattle.sha2.specs.Hash.{initialValue, fresh, started, fits, grown, waiting, taken, fed, lastValue, finished, digested, fedAll, AllTaken, allOf}
+use Rattle.sha2.proofs.StateLaws.{fitting, initial-known, fed-taken, finished-fit}
 use Rattle.sha2.proofs.PartLaws.{taken-taken, taken-fits, taken-total}
 
 -- ---- a fresh state
@@ -56,6 +56,14 @@ read-initial kind h = by-first (eqb kind 32)
     by-first true = refl
     by-first false = by-second (eqb kind 48)
 
+-- the hash value of a message, padded
+value-padded : (kind : ℕ) (m : List ℕ) → known kind ≡ true
+    → valueAfter (widthOf kind) (initialValue kind) (padded (widthOf kind) m) ≡ valueOf (widthOf kind) (after (widthOf kind) (initial kind) (padded (widthOf kind) m))
+value-padded kind m h =
+    let p : Width = widthOf kind in
+    valueAfter-whole p (initialValue kind) (padded p m) (padded-least p m (sizes-of kind .positive))
+    ∙ ap (λ (t : List ℕ). valueOf p (after p t (padded p m))) (ap (λ (v : List ℕ). wordsAt v 0 (p .bytes) 8) (initial-known kind h) ∙ read-initial kind h)
+
 -- ---- a state that was fed m
 
 behind-none : (p : Width) → behind p [] ≡ []
@@ -70,7 +78,7 @@ record Holds (kind : ℕ) (m : List ℕ) (s : Hash) : Type 0 where
   pub kind-is : s .kind ≡ kind
   pub total : s .total ≡ length m
   pub waits : take (s .held) (s .tail) ≡ behind (widthOf kind) m
-  pub value : s .value ≡ valueAfter (widthOf kind) (valueOf (widthOf kind) (initial kind)) m
+  pub value : s .value ≡ valueAfter (widthOf kind) (initialValue kind) m
 
 holds : (kind : ℕ) (m : List ℕ) → Holds kind m (taken (fresh kind) m)
 unfolding fresh grown
@@ -79,7 +87,7 @@ holds kind [] =
       kind-is = refl;
       total = refl;
       waits = sym (behind-none (widthOf kind));
-      value = sym (valueAfter-short (widthOf kind) (valueOf (widthOf kind) (initial kind)) [] (sizes-of kind .positive));
+      value = sym (valueAfter-short (widthOf kind) (initialValue kind) [] (sizes-of kind .positive));
     }
 holds kind (x ∷ m) =
     record {
@@ -94,12 +102,9 @@ last-whole : (kind : ℕ) (m : List ℕ) (s : Hash) → known kind ≡ true → 
     → lastValue s ≡ valueOf (widthOf kind) (after (widthOf kind) (initial kind) (padded (widthOf kind) m))
 last-whole kind m s h g =
     let p : Width = widthOf kind in
-    let v : List ℕ = valueOf p (initial kind) in
     let sizes : Sizes p = sizes-of kind in
     rw (g .kind-is, g .total, g .waits, g .value)
-    (valueAfter-parts p v m (padding p (length m)) sizes
-    ∙ valueAfter-whole p v (padded p m) (padded-least p m (sizes .positive))
-    ∙ ap (λ (t : List ℕ). valueOf p (after p t (padded p m))) (read-initial kind h))
+    (valueAfter-parts p (initialValue kind) m (padding p (length m)) sizes ∙ value-padded kind m h)
 
 -- and its first bytes are the digest
 take-value : (kind : ℕ) (m : List ℕ) → known kind ≡ true
@@ -147,14 +152,18 @@ unfolding grown
 taken-value s [] l = l
 taken-value s (x ∷ a) l = length-valueAfter (widthOf (s .kind)) (s .value) (waiting s (x ∷ a)) (sizes-of (s .kind)) l
 
-pub fresh-value : (kind : ℕ) → length (valueOf (widthOf kind) (initial kind)) ≡ hSize
-unfolding H256 H384 H512
-fresh-value kind = length-valueOf (widthOf kind) (initial kind) (sizes-of kind) (by-kind (eqb kind 32) (eqb kind 48))
+pub fresh-value : (kind : ℕ) → length (initialValue kind) ≡ hSize
+unfolding initialValue H256 H384 H512
+fresh-value kind = by-test (known kind)
   where
     by-kind : (t u : Bool) → length (cond t H256 (cond u H384 H512)) ≡ 8
     by-kind true u = refl
     by-kind false true = refl
     by-kind false false = refl
+
+    by-test : (t : Bool) → length (cond t (valueOf (widthOf kind) (initial kind)) (zeros hSize)) ≡ hSize
+    by-test true = length-valueOf (widthOf kind) (initial kind) (sizes-of kind) (by-kind (eqb kind 32) (eqb kind 48))
+    by-test false = refl
 
 fedAll-taken : (s : Hash) (parts : List (List ℕ)) → length (s .tail) ≡ blockMost → fits s ≡ true → s .total + length (allOf parts) ≤ hashMost
     → fedAll s parts ≡ taken s (allOf parts)
@@ -203,13 +212,8 @@ unfolding digested
 digested-refused kind a b h = rw (length-append a b, h)
 
 -- the first bytes of the last hash value, from the initial one on
-pub digested-of : (kind : ℕ) (m v : List ℕ) → known kind ≡ true → length m ≤ hashMost
-    → v ≡ valueAfter (widthOf kind) (valueOf (widthOf kind) (initial kind)) (padded (widthOf kind) m)
+pub digested-of : (kind : ℕ) (m v : List ℕ) → known kind ≡ true → length m ≤ hashMost → v ≡ valueAfter (widthOf kind) (initialValue kind) (padded (widthOf kind) m)
     → _≡_ {A = Digest} (record { number = 0; bytes = sized hSize (take kind v) }) (digested kind m)
 digested-of kind m v h l e =
-    let p : Width = widthOf kind in
-    let w : List ℕ = valueOf p (initial kind) in
-    ap (λ (t : List ℕ). record { number = 0; bytes = sized hSize (take kind t) })
-    (e ∙ valueAfter-whole p w (padded p m) (padded-least p m (sizes-of kind .positive)) ∙ ap (λ (t : List ℕ). valueOf p (after p t (padded p m))) (read-initial kind h))
-    ∙ ap (λ (t : List ℕ). record { number = 0; bytes = sized hSize t }) (take-value kind m h)
+    ap (λ (t : List ℕ). record { number = 0; bytes = sized hSize t }) (ap (take kind) (e ∙ value-padded kind m h) ∙ take-value kind m h)
     ∙ sym (digested-known kind m h l)

@@ -15,17 +15,17 @@ use Rattle.sha2.specs.declared.Digest.{Digest}
 
 -- ---- start
 
--- a hash that was fed nothing: the initial hash value
-unfoldable pub fresh : ℕ → Hash
-fresh kind = record { kind = kind; total = 0; held = 0; value = valueOf (widthOf kind) (initial kind); tail = zeros blockMost }
-
 -- the initial hash value of a kind, as bytes; zeros where there is none
 unfoldable pub initialValue : ℕ → List ℕ
 initialValue kind = cond (known kind) (valueOf (widthOf kind) (initial kind)) (zeros hSize)
 
+-- a hash that was fed nothing
+unfoldable pub fresh : ℕ → Hash
+fresh kind = record { kind = kind; total = 0; held = 0; value = initialValue kind; tail = zeros blockMost }
+
 -- a state that fits nothing
-unfoldable pub blank : Hash
-blank = record { kind = 0; total = 0; held = 0; value = zeros hSize; tail = zeros blockMost }
+abbrev pub blank : Hash
+blank = fresh 0
 
 unfoldable pub started : ℕ → Fed
 started kind = cond (known kind) (record { number = 0; hash = fresh kind }) (record { number = 4; hash = blank })

@@ -1,20 +1,21 @@
 -- `sha2::feed` meets its contract. Assumes nothing.
 use Prim.Native.Nat.{_-_}
-use mathlib.Core.Path.{_≡_, sym, ap, _∙_}
+use mathlib.Core.Path.{_≡_, ap, _∙_}
 use denote.Ref.{now}
 use native.Mathlib.Omega.{arith}
 use lib.ListN.{length, take}
 use lib.Seq.{length-take-le}
+use Rattle.limits.proofs.BoolLaws.{holds, fails}
 use Rattle.limits.specs.Limits.{blockMost}
 use Rattle.sha2.specs.declared.Hash.{Hash}
-use Rattle.sha2.proofs.StateLaws.{not-true, not-false, Fitting, fitting, fed-unfit, fed-long, fed-taken, taken-none, taken-some}
+use Rattle.sha2.proofs.StateLaws.{Fitting, fitting, fed-unfit, fed-long, fed-taken, taken-none, taken-some}
 use borrow.Author.Needs.{needs}
 use Rattle.sha2.proofs.feed.Statement.{statement}
 use Rattle.sha2.proofs.feed.Tie as tie
 
 -- past the first test
 fitted : (c : tie.Else1) → Fitting (c .before .before .before .args .s)
-fitted c = fitting (c .before .before .before .args .s) (sym (c .before .fits2 .ensures) ∙ not-false _ (c .if1 .left))
+fitted c = fitting (c .before .before .before .args .s) (holds (c .before .fits2 .ensures) (c .if1 .left))
 
 fits-requires : tie.Need-fits-requires
 fits-requires c κs = search needs
@@ -23,7 +24,7 @@ returns : tie.Need-returns
 returns c =
     let f = c .before in
     let a = f .before .before .args in
-    fed-unfit (a .s) (now (a .part)) (sym (f .fits2 .ensures) ∙ not-true _ (c .if1 .taken))
+    fed-unfit (a .s) (now (a .part)) (fails (f .fits2 .ensures) (c .if1 .taken))
 
 sub-if2 : tie.Need-sub-if2
 sub-if2 c = fitted c .total
@@ -33,7 +34,7 @@ returns-2 c =
     let e = c .before in
     let f = e .before in
     let a = f .before .before .args in
-    fed-long (a .s) (now (a .part)) (sym (f .fits2 .ensures) ∙ not-false _ (e .if1 .left)) (omega (arith, fitted e))
+    fed-long (a .s) (now (a .part)) (holds (f .fits2 .ensures) (e .if1 .left)) (omega (arith, fitted e))
 
 returns-3 : tie.Need-returns-3
 returns-3 c =
@@ -41,7 +42,7 @@ returns-3 c =
     let f = e .before in
     let a = f .before .before .args in
     ap (λ (h : Hash). record { number = 0; hash = h }) (taken-none (a .s) (now (a .part)) (c .if3 .taken))
-    ∙ fed-taken (a .s) (now (a .part)) (sym (f .fits2 .ensures) ∙ not-false _ (e .if1 .left)) (omega (arith, fitted e))
+    ∙ fed-taken (a .s) (now (a .part)) (holds (f .fits2 .ensures) (e .if1 .left)) (omega (arith, fitted e))
 
 sub-grow : tie.Need-sub-grow
 sub-grow c = search needs
@@ -70,7 +71,7 @@ returns-4 c =
     let f = e .before in
     let a = f .before .before .args in
     ap (λ (h : Hash). record { number = 0; hash = h }) (c .grow .ensures ∙ taken-some (a .s) (now (a .part)) (omega arith))
-    ∙ fed-taken (a .s) (now (a .part)) (sym (f .fits2 .ensures) ∙ not-false _ (e .if1 .left)) (omega (arith, fitted e))
+    ∙ fed-taken (a .s) (now (a .part)) (holds (f .fits2 .ensures) (e .if1 .left)) (omega (arith, fitted e))
 
 pub feed-spec : {M : Type 1} → statement M
 feed-spec =

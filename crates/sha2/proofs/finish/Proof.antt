@@ -6,26 +6,27 @@ use mathlib.Core.Bool.{true}
 use mathlib.Core.List.{List, _++_}
 use lib.ListN.{length, take}
 use lib.Seq.{length-take-le}
+use Rattle.limits.proofs.BoolLaws.{holds, fails}
 use Rattle.limits.specs.Limits.{hSize, blockMost}
 use Rattle.sha_words.specs.Constants.{widthOf}
 use Rattle.sha_words.specs.Message.{padding, sized, valueAfter}
 use Rattle.sha_words.proofs.PaddingLaws.{sizes-of}
 use Rattle.sha_words.proofs.DigestLaws.{kind-most}
 use Rattle.sha2.specs.Hash.{fits}
-use Rattle.sha2.proofs.StateLaws.{not-true, not-false, Fitting, fitting, finished-unfit, finished-fit}
+use Rattle.sha2.proofs.StateLaws.{Fitting, fitting, finished-unfit, finished-fit}
 use borrow.Author.Needs.{needs}
 use Rattle.sha2.proofs.finish.Statement.{statement}
 use Rattle.sha2.proofs.finish.Tie as tie
 
 -- past the first test
 fit : (c : tie.Else1) → fits (c .before .before .args .s) ≡ true
-fit c = sym (c .before .fits2 .ensures) ∙ not-false _ (c .if1 .left)
+fit c = holds (c .before .fits2 .ensures) (c .if1 .left)
 
 fits-requires : tie.Need-fits-requires
 fits-requires c κs = search needs
 
 returns : tie.Need-returns
-returns c = finished-unfit (c .before .before .args .s) (sym (c .before .fits2 .ensures) ∙ not-true _ (c .if1 .taken))
+returns c = finished-unfit (c .before .before .args .s) (fails (c .before .fits2 .ensures) (c .if1 .taken))
 
 sub-last : tie.Need-sub-last
 sub-last c = search needs

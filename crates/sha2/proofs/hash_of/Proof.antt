@@ -7,12 +7,12 @@ use mathlib.Core.Bool.{true, _&&_, and-eq-true-iff}
 use mathlib.Core.List.{List, _++_}
 use lib.ListN.{length, length-append}
 use borrow.Author.Tests.{leb-true}
+use borrow.Author.Tests.{not-true, not-false}
 use Rattle.limits.specs.Limits.{hashMost}
 use Rattle.sha_words.specs.Constants.{known, widthOf}
 use Rattle.sha_words.specs.Message.{padded, valueAfter}
 use Rattle.sha_words.proofs.PaddingLaws.{sizes-of}
 use Rattle.sha_words.proofs.DigestLaws.{kind-most}
-use Rattle.sha2.proofs.StateLaws.{not-true, not-false, initial-known}
 use Rattle.sha2.proofs.WholeLaws.{digested-refused, digested-of}
 use borrow.Author.Needs.{needs}
 use Rattle.sha2.proofs.hash_of.Statement.{statement}
@@ -67,7 +67,7 @@ returns-2 c =
     let p = widthOf (a .kind) in
     ap (λ (t : List ℕ). record { number = 0; bytes = t }) (c .cut .ensures)
     ∙ digested-of (a .kind) m (v .value-of-both .result) (fit e .0) (omega (arith, length-append (now (a .a)) (now (a .b)), fit e .1))
-    (v .value-of-both .ensures ∙ ap (λ (t : List ℕ). valueAfter p t (padded p m)) (i .initial-of .ensures ∙ initial-known (a .kind) (fit e .0)))
+    (v .value-of-both .ensures ∙ ap (λ (t : List ℕ). valueAfter p t (padded p m)) (i .initial-of .ensures))
 
 pub hash-of-spec : {M : Type 1} → statement M
 hash-of-spec =

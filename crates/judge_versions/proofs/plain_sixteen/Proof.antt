@@ -1,9 +1,9 @@
--- `judge::plain_sixteen` meets its contract. Assumes nothing.
+-- `judge_versions::plain_sixteen` meets its contract. Assumes nothing.
 use native.Mathlib.Omega.{arith}
 use denote.Ref.{now}
-use Rattle.judge.proofs.PlainLaws.{plain-sixteen}
-use Rattle.judge.proofs.plain_sixteen.Statement.{statement}
-use Rattle.judge.proofs.plain_sixteen.Tie as tie
+use Rattle.judge_versions.proofs.PlainLaws.{plain-sixteen}
+use Rattle.judge_versions.proofs.plain_sixteen.Statement.{statement}
+use Rattle.judge_versions.proofs.plain_sixteen.Tie as tie
 
 shared-slice-read-b0 : tie.Need-shared-slice-read-b0
 shared-slice-read-b0 c = omega arith

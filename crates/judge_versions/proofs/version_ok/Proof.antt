@@ -1,4 +1,4 @@
--- `judge::version_ok` meets its contract. Assumes nothing.
+-- `judge_versions::version_ok` meets its contract. Assumes nothing.
 use borrow.Author.Needs.{needs}
 use Prim.Native.Nat.{_-_, _≤_}
 use mathlib.Core.Path.{_≡_, sym, ap, _∙_}
@@ -7,10 +7,10 @@ use lib.ListN.{length, drop, drop-of-length-le}
 use denote.Ref.{now}
 use Rattle.limits.proofs.BoolLaws.{holds, fails}
 use Rattle.exchange.specs.Causes.{plain, versionOk}
-use Rattle.judge.proofs.PlainLaws.{plain-part, plain-at}
-use Rattle.judge.proofs.JudgeLaws.{version-empty, version-long, version-plain}
-use Rattle.judge.proofs.version_ok.Statement.{statement}
-use Rattle.judge.proofs.version_ok.Tie as tie
+use Rattle.judge_versions.proofs.PlainLaws.{plain-part, plain-at}
+use Rattle.judge_versions.proofs.VersionLaws.{version-empty, version-long, version-plain}
+use Rattle.judge_versions.proofs.version_ok.Statement.{statement}
+use Rattle.judge_versions.proofs.version_ok.Tie as tie
 
 abbrev Inv-loop : tie.InvT-loop
 Inv-loop v i₀ i = (i ≤ length v) × (plain (drop i v) ≡ versionOk v)
