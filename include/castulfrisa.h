@@ -106,7 +106,7 @@ enum castulfrisa_number {
     CASTULFRISA_NOT_DUE = 1,             /* the step is not due, also when complete or failed; or the bytes are no exchange's */
     CASTULFRISA_NO_METHOD = 2,           /* method not 1 to 9, or role neither client nor server */
     CASTULFRISA_SHORT_ROOM = 3,          /* room too short */
-    CASTULFRISA_BAD_INPUT = 4,           /* a field, outcome, K_PQ or hash handed in by the caller has a wrong length or form */
+    CASTULFRISA_BAD_INPUT = 4,           /* a field, outcome, K_PQ or hash handed in has a wrong length or form, or a hash would be fed too much */
     CASTULFRISA_SHORT_OUTPUT = 5,        /* an output too short */
     CASTULFRISA_PAYLOAD_SIZE = 10,       /* payload empty or too long */
     CASTULFRISA_MESSAGE = 11,            /* another message's number */
@@ -425,7 +425,7 @@ CASTULFRISA_MUST_USE static inline const char *castulfrisa_text(uint64_t number)
     case CASTULFRISA_NOT_DUE: return "the step is not due, or the bytes lent for the exchange are none";
     case CASTULFRISA_NO_METHOD: return "there is no such method or role";
     case CASTULFRISA_SHORT_ROOM: return "the room is too short";
-    case CASTULFRISA_BAD_INPUT: return "a field, outcome, K_PQ or hash handed in has a wrong length or form";
+    case CASTULFRISA_BAD_INPUT: return "a field, outcome, K_PQ or hash handed in has a wrong length or form, or a hash would be fed too much";
     case CASTULFRISA_SHORT_OUTPUT: return "an output is too short";
     case CASTULFRISA_PAYLOAD_SIZE: return "the payload is empty or too long";
     case CASTULFRISA_MESSAGE: return "the payload is another message";

@@ -10,7 +10,7 @@ pub enum Refusal {
     NoMethod,
     /// 3: the room is too short.
     ShortRoom,
-    /// 4: what the caller handed in has a wrong length or form.
+    /// 4: what the caller handed in has a wrong length or form, or a hash would be fed too much.
     BadInput,
     /// 5: an output is too short.
     ShortOutput,
@@ -49,7 +49,7 @@ const ALL: [(u64, Refusal, &str); 18] = [
     (1, Refusal::NotDue, "the step is not due, or the bytes lent for the exchange are none"),
     (2, Refusal::NoMethod, "there is no such method or role"),
     (3, Refusal::ShortRoom, "the room is too short"),
-    (4, Refusal::BadInput, "a field, outcome, K_PQ or hash handed in has a wrong length or form"),
+    (4, Refusal::BadInput, "a field, outcome, K_PQ or hash handed in has a wrong length or form, or a hash would be fed too much"),
     (5, Refusal::ShortOutput, "an output is too short"),
     (10, Refusal::PayloadSize, "the payload is empty or too long"),
     (11, Refusal::Message, "the payload is another message"),

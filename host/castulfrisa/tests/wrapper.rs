@@ -371,7 +371,8 @@ fn nothing_secret_is_shown() {
         shown,
         "Given(32 bytes) Done(32 bytes) Failed Exchange { role: 1, method: 1, stage: 4, .. } \
          Exchange { role: 1, method: 1, stage: 5, .. } K { .. } \
-         Refused { refusal: BadInput, .. } a field, outcome, K_PQ or hash handed in has a wrong length or form (4) \
+         Refused { refusal: BadInput, .. } a field, outcome, K_PQ or hash handed in has a wrong length or form, \
+         or a hash would be fed too much (4) \
          Hash { kind: Sha384, .. }"
     );
 }
