@@ -1,4 +1,4 @@
--- What an accepted call hands out is what the book says: hash input and its length, REPLY, and K. Assumes nothing.
+-- What an accepted call hands out is what the book says: hash input and its length, H, REPLY, and K. Assumes nothing.
 use Prim.Native.Nat.{ℕ, _+_, _≤_}
 use mathlib.Core.Path.{_≡_, refl, sym, ap, _∙_}
 use mathlib.Core.List.{List, [], _∷_}

@@ -1,4 +1,4 @@
--- Document 01's sizes and the boundary's own, one table for every definition above. Assumes nothing.
+-- Documents 01's and 02's sizes and the boundary's own, one table for every definition above. Assumes nothing.
 use Prim.Native.Nat.{ℕ}
 
 -- a version, V_C or V_S: at most so many bytes
