@@ -21,7 +21,7 @@ _Static_assert(K_AT + CASTULFRISA_K == CASTULFRISA_EXCHANGE, "the exchange's byt
 #define LENGTH_MOST UINT16_MAX /* the most that a recorded length's two bytes hold */
 
 /* Those of a hash, likewise: its kind, and two numbers of eight bytes, the bytes fed in all and those that wait. */
-enum { KIND_AT = 0, TOTAL_AT = 1, TAIL_AT = 9 };
+enum { KIND_AT = 0, TOTAL_AT = 1, HELD_AT = 9 };
 
 typedef struct { uint8_t *at; size_t len; } bytes; /* a block of exactly len bytes; NULL for none */
 
@@ -396,7 +396,7 @@ static void set_hash_number(size_t at, uint64_t n)
 static void put_hash(uint64_t n)
 {
     put_number(n);
-    printf(" %u.%" PRIu64 ".%" PRIu64, hash[KIND_AT], hash_number(TOTAL_AT), hash_number(TAIL_AT));
+    printf(" %u.%" PRIu64 ".%" PRIu64, hash[KIND_AT], hash_number(TOTAL_AT), hash_number(HELD_AT));
 }
 
 static void call_sha(char **t) { put_hash(castulfrisa_hash_start(hash, sizeof hash, byte(t[1]))); }
@@ -419,7 +419,7 @@ static void call_shaset(char **t)
 {
     if (strcmp(t[1], "kind") == 0) hash[KIND_AT] = byte(t[2]);
     else if (strcmp(t[1], "total") == 0) set_hash_number(TOTAL_AT, number(t[2], UINT64_MAX));
-    else if (strcmp(t[1], "tail") == 0) set_hash_number(TAIL_AT, number(t[2], UINT64_MAX));
+    else if (strcmp(t[1], "tail") == 0) set_hash_number(HELD_AT, number(t[2], UINT64_MAX));
     else bad("unknown field");
     put_hash(0);
 }

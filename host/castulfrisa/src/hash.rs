@@ -26,7 +26,7 @@ pub enum Kind {
 impl Kind {
     pub const ALL: [Kind; 3] = [Kind::Sha256, Kind::Sha384, Kind::Sha512];
 
-    /// The kind of a number, as `Sizes::digest_len` of a method has it.
+    /// The kind of a number, which is its digest's length; a method's is `Sizes::digest_len as u64`.
     pub fn of(number: u64) -> Option<Kind> {
         Kind::ALL.into_iter().find(|kind| kind.number() == number)
     }
