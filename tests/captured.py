@@ -1,7 +1,7 @@
 """The captured exchanges of tests/captures, as the scripts beside this one read them."""
 from held import ROOT
 
-FIELDS = ("V_C", "V_S", "I_C", "I_S", "K_S", "C", "S", "X", "K_PQ", "digest", "K", "H", "signature", "INIT", "REPLY")
+FIELDS = ("V_C", "V_S", "I_C", "I_S", "K_S", "C", "S", "X", "K_PQ", "K", "H", "signature", "INIT", "REPLY")
 
 
 def words(path):

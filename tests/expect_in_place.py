@@ -8,16 +8,14 @@ Writes crates/in_place_run/stdin and stdout; with --check it only compares, and 
 import sys
 
 sys.dont_write_bytecode = True
-from captured import capture, string, words
+from captured import capture, string
 from held import ROOT, written
 
 FIELDS = ("V_C", "V_S", "I_C", "I_S", "C", "X", "K_PQ", "K_S", "S", "INIT", "REPLY")
 STARTED = ("V_C", "V_S", "I_C", "I_S")
 HASHED = (*STARTED, "K_S", "C", "S")
 
-NAME = "client-9-openssh-10.0"
-f = capture(NAME)
-f |= {field: bytes.fromhex(words(ROOT / "tests/captures" / f"{NAME}.txt")[field]) for field in ("K_PQ", "H")}
+f = capture("client-9-openssh-10.0")
 room = bytearray(b"\x55" * 14156)
 lines = []
 
