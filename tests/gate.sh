@@ -1,7 +1,7 @@
 #!/bin/sh
 # The gate: the programs' inputs and outputs, the layout, rt ci (every crate from nothing, every edit that must be refused, every program),
-# then the library that it proved, its hosts, and the library for other machines. The last line is that of rt ci, and it stands there only
-# where all passed.
+# whether each wrong program was refused where it is wrong, then the library that was proved, its hosts, and the library for other machines. The
+# last line is that of rt ci, and it stands there only where all passed.
 set -eu
 cd "$(dirname "$0")/.."
 mkdir -p build
@@ -10,12 +10,13 @@ make="make --no-print-directory"
 $make needs cross vectors
 rt fmt --check
 
-# rt waits for the last of each batch of RT_JOBS: three to a core keep the cores busy, at most 1 GB each. build/ci.log keeps what rt
+# rt waits for the last of each batch of RT_JOBS: three to a core keep the cores busy, at most 1.6 GB each. build/ci.log keeps what rt
 # says; its last line is held back to the end.
 rm -f build/ci.passed
 { RT_JOBS=${RT_JOBS:-$((3 * $(nproc) < 6 ? 3 * $(nproc) : 6))} rt ci 2>&1 && touch build/ci.passed; } | tee build/ci.log | sed '$d'
 verdict=$(tail -n 1 build/ci.log)
 [ -f build/ci.passed ] || { echo "$verdict"; exit 1; }
+python3 tests/refused.py || { echo "gate: a wrong program was not refused where it is wrong"; exit 1; }
 
 # The library anew, from the crates that rt ci has proved.
 rm -rf build/checked build/checked.key
