@@ -1,6 +1,7 @@
 -- FIPS 180-4, sections 5.1, 5.2 and 6: a message of whole bytes padded, parsed into blocks, and hashed; and a hash value as bytes.
 -- Assumes nothing.
 use Prim.Native.Nat.{ℕ, zero, suc, _+_, _-_, _*_, _/_, _%_}
+use mathlib.Core.Path.{_≡_}
 use mathlib.Core.List.{List, [], _∷_, _++_}
 use mathlib.Core.Bool.{cond}
 use lib.ListN.{length, take, drop}
@@ -29,6 +30,10 @@ wordsAt b at n zero = []
 wordsAt b at n (suc k) = numberAt b at n ∷ wordsAt b (at + n) n k
 
 -- ---- 5.1: padding
+
+-- k zero bits behind the bit 1 pad a message of l bits: l + 1 + k ≡ 448 mod 512, for words of 64 bits 896 mod 1024
+abbrev pub pads : Width → ℕ → ℕ → Type 0
+pads p l k = (l + 1 + k) % (8 * p .block) ≡ 8 * p .block - 2 * p .w
 
 -- the fewest zero bytes after which n bytes, the byte that begins with the bit 1, and two words end with a block
 unfoldable pub zeroBytes : Width → ℕ → ℕ
