@@ -1,6 +1,7 @@
 -- A hash in the bytes that a host lends for it, and what the calls on them answer and leave, by the definitions of those by value. Assumes
 -- nothing.
 use Prim.Native.Nat.{ℕ}
+use mathlib.Core.Path.{_≡_}
 use mathlib.Core.List.{List, [], _∷_, _++_}
 use mathlib.Core.Bool.{cond}
 use lib.ListN.{length, getD, take, drop}
@@ -51,3 +52,8 @@ hashFinishLeft b = byHashSize b (hashLeft (finished (stateIn b) .number) (finish
 abbrev pub hashFeedAllLeft : List ℕ → List (List ℕ) → List ℕ
 hashFeedAllLeft b [] = b
 hashFeedAllLeft b (part ∷ parts) = hashFeedAllLeft (hashFeedLeft b part .bytes) parts
+
+-- each of them is answered 0
+abbrev pub HashAllTaken : List ℕ → List (List ℕ) → Type 0
+HashAllTaken b [] = Unit {0}
+HashAllTaken b (part ∷ parts) = (hashFeedLeft b part .number ≡ 0) × HashAllTaken (hashFeedLeft b part .bytes) parts
