@@ -8,7 +8,7 @@ use lib.ListN.{length, getD, take, drop}
 use lib.Dec.{eqb}
 use Rattle.limits.specs.Limits.{hSize, hashSize}
 use Rattle.buffers.specs.Bytes.{zeros}
-use Rattle.sha_words.specs.Blocks.{numberAt}
+use Rattle.sha_words.specs.Blocks.{wordAt}
 use Rattle.sha_words.specs.Message.{bytesOf}
 use Rattle.sha2.specs.Hash.{started, fed, finished}
 use Rattle.sha2.specs.declared.Hash.{Hash}
@@ -19,7 +19,7 @@ unfoldable pub stateBytes : Hash → List ℕ
 stateBytes s = (s .kind ∷ []) ++ bytesOf 8 (s .total) ++ bytesOf 8 (s .held) ++ s .value ++ s .tail
 
 unfoldable pub stateIn : List ℕ → Hash
-stateIn b = record { kind = getD b 0 0; total = numberAt b 1 8; held = numberAt b 9 8; value = take hSize (drop 17 b); tail = drop 81 b }
+stateIn b = record { kind = getD b 0 0; total = wordAt b 1 8; held = wordAt b 9 8; value = take hSize (drop 17 b); tail = drop 81 b }
 
 -- ---- the calls: on as many bytes as a hash has; on others 4, and they stay
 

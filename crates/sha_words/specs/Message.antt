@@ -10,7 +10,7 @@ use Rattle.limits.specs.Limits.{hSize}
 use Rattle.buffers.specs.Bytes.{zeros}
 use Rattle.sha_words.specs.Words.{Width}
 use Rattle.sha_words.specs.Constants.{widthOf, initial}
-use Rattle.sha_words.specs.Blocks.{numberAt, after}
+use Rattle.sha_words.specs.Blocks.{wordAt, after}
 
 -- ---- 3.1: numbers and words as bytes
 
@@ -27,7 +27,7 @@ wordBytes n (x ∷ ws) = bytesOf n x ++ wordBytes n ws
 -- so many words of n bytes each, from `at` on
 abbrev pub wordsAt : List ℕ → ℕ → ℕ → ℕ → List ℕ
 wordsAt b at n zero = []
-wordsAt b at n (suc k) = numberAt b at n ∷ wordsAt b (at + n) n k
+wordsAt b at n (suc k) = wordAt b at n ∷ wordsAt b (at + n) n k
 
 -- ---- 5.1: padding
 
