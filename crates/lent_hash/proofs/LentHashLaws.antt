@@ -1,15 +1,15 @@
 -- Laws of a hash in lent bytes: what its code cites, and that the bytes hold all of a state. Assumes nothing.
 use Prim.Native.Nat.{ℕ, zero, suc, _+_, _*_, _%_, _/_, _^_, _≤_, _<_}
 use mathlib.Core.Path.{_≡_, refl, sym, ap, _∙_}
-use mathlib.Core.List.{List, [], _∷_, _++_, append-assoc, append-nil}
+use mathlib.Core.List.{List, [], _∷_, _++_, append-assoc}
 use native.Mathlib.Omega.{arith}
 use native.Mathlib.Nat.{pow-suc}
 use lib.ListN.{length, getD, take, drop, length-append, length-drop, take-append-drop}
-use lib.Seq.{drop-length, take-at, drop-at, take-suc, getD-drop, drop-drop, length-take-le}
+use lib.Seq.{take-at, drop-at, take-suc, getD-drop, drop-drop, length-take-le}
 use borrow.Author.Tests.{eq-eqb, ne-eqb}
 use Rattle.limits.specs.Limits.{hSize, blockMost, hashSize}
-use Rattle.buffers.specs.Bytes.{Bytes, over, onto, laid}
-use Rattle.buffers.proofs.ByteLaws.{laid-laid, laid-fits, over-zero}
+use Rattle.buffers.specs.Bytes.{Bytes, laid}
+use Rattle.buffers.proofs.ByteLaws.{laid-laid, laid-whole}
 use Rattle.sha_words.specs.Blocks.{wordAt}
 use Rattle.sha_words.specs.Message.{bytesOf}
 use Rattle.sha_words.proofs.PaddingLaws.{length-bytesOf}
@@ -26,12 +26,6 @@ pub size-left : {A : Type 0} (b : List ℕ) (x y : A) → (length b ≡ hashSize
 size-left b x y h = rw (ne-eqb (length b) hashSize h)
 
 -- ---- laid whole
-
--- bytes as many as those they are laid over
-pub laid-whole : (l b : List ℕ) → length b ≡ length l → laid l 0 b ≡ b
-unfolding onto
-laid-whole l b h =
-    laid-fits l 0 b (omega arith) ∙ over-zero l b ∙ ap (λ (n : ℕ). b ++ drop n l) h ∙ ap (λ (t : List ℕ). b ++ t) (drop-length l) ∙ append-nil b
 
 -- five parts, one behind the other
 pub laid-five : (l a b c d e : List ℕ) → length a ≡ 1 → length b ≡ 8 → length c ≡ 8 → length d ≡ hSize → length e ≡ blockMost → length l ≡ hashSize

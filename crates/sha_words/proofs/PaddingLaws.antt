@@ -141,17 +141,17 @@ padded-whole p m h =
     ) in
     ap (λ (n : ℕ). n % p .block) e ∙ fill-whole (p .block) x h
 
+-- what waits and the bit 1
+abbrev pub begun : List ℕ → List ℕ
+begun before = before ++ (128 ∷ [])
+
+pub length-begun : (before : List ℕ) → length (begun before) ≡ length before + 1
+length-begun before = length-append before (128 ∷ [])
+
 -- the end of a message of `total` bytes, of which `before` stand behind the last whole block
 module _ (p : Width) (before : List ℕ) (total : ℕ) (sizes : Sizes p) (waits : length before ≡ total % p .block) (most : total ≤ hashMost) where
   abbrev filler : ℕ
   filler = length before + 1 + 2 * p .bytes
-
-  -- what waits and the bit 1
-  abbrev begun : List ℕ
-  begun = before ++ (128 ∷ [])
-
-  length-begun : length begun ≡ length before + 1
-  length-begun = length-append before (128 ∷ [])
 
   less : length before < p .block
   less = omega (arith, waits, mod-lt total (sizes .positive))
@@ -171,7 +171,7 @@ module _ (p : Width) (before : List ℕ) (total : ℕ) (sizes : Sizes p) (waits 
   zeros-two h = rw reduced (fill-two (p .block) filler h (omega (arith, less, sizes .room)))
 
   -- the message's end with the zeros of the count among the others
-  ends : (n : ℕ) → zeroBytes p total + (2 * p .bytes - 3) ≡ n → before ++ padding p total ≡ begun ++ zeros n ++ bytesOf 3 (8 * total)
+  ends : (n : ℕ) → zeroBytes p total + (2 * p .bytes - 3) ≡ n → before ++ padding p total ≡ begun before ++ zeros n ++ bytesOf 3 (8 * total)
   unfolding padding
   ends n e =
       let k : ℕ = 2 * p .bytes - 3 in
@@ -187,23 +187,23 @@ module _ (p : Width) (before : List ℕ) (total : ℕ) (sizes : Sizes p) (waits 
       ∙ ap (λ (l : List ℕ). l ++ c) (sym (append-assoc before (128 ∷ []) (zeros n)))
 
   -- in one block
-  pub ends-one : filler ≤ p .block → before ++ padding p total ≡ sized (p .block - 3) begun ++ bytesOf 3 (8 * total)
+  pub ends-one : filler ≤ p .block → before ++ padding p total ≡ sized (p .block - 3) (begun before) ++ bytesOf 3 (8 * total)
   unfolding sized
-  ends-one h = ends (p .block - 3 - length begun) (omega (arith, zeros-one h, length-begun, sizes .three))
+  ends-one h = ends (p .block - 3 - length (begun before)) (omega (arith, zeros-one h, length-begun before, sizes .three))
 
   -- in two
-  pub ends-two : p .block < filler → before ++ padding p total ≡ sized (p .block) begun ++ (sized (p .block - 3) [] ++ bytesOf 3 (8 * total))
+  pub ends-two : p .block < filler → before ++ padding p total ≡ sized (p .block) (begun before) ++ (sized (p .block - 3) [] ++ bytesOf 3 (8 * total))
   unfolding sized
   ends-two h =
       let b : ℕ = p .block in
-      let n : ℕ = b - length begun in
+      let n : ℕ = b - length (begun before) in
       let c : List ℕ = bytesOf 3 (8 * total) in
       let d : b - 3 - 0 ≡ b - 3 = omega arith in
-      ends (n + (b - 3)) (omega (arith, zeros-two h, length-begun, sizes .three, sizes .room, less))
-      ∙ ap (λ (l : List ℕ). begun ++ l ++ c) (sym (replicate-append-replicate n (b - 3) 0))
-      ∙ ap (λ (l : List ℕ). l ++ c) (sym (append-assoc begun (zeros n) (zeros (b - 3))))
-      ∙ append-assoc (begun ++ zeros n) (zeros (b - 3)) c
-      ∙ ap (λ (m : ℕ). begun ++ zeros n ++ (zeros m ++ c)) (sym d)
+      ends (n + (b - 3)) (omega (arith, zeros-two h, length-begun before, sizes .three, sizes .room, less))
+      ∙ ap (λ (l : List ℕ). begun before ++ l ++ c) (sym (replicate-append-replicate n (b - 3) 0))
+      ∙ ap (λ (l : List ℕ). l ++ c) (sym (append-assoc (begun before) (zeros n) (zeros (b - 3))))
+      ∙ append-assoc (begun before ++ zeros n) (zeros (b - 3)) c
+      ∙ ap (λ (m : ℕ). begun before ++ zeros n ++ (zeros m ++ c)) (sym d)
 
   -- the block that the code lays the count in
   pub counted : (l : List ℕ) → length l ≤ p .block - 3
