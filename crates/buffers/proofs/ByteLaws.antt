@@ -6,11 +6,11 @@ use mathlib.Core.Bool.{Bool, true, false, cond, _&&_, false≢true}
 use native.Mathlib.Omega.{arith}
 use native.Mathlib.Nat.{add-assoc, add-zero, zero-add}
 use native.Mathlib.Numerals.{add-one}
-use lib.ListN.{length, getD, take, drop, set, length-append, length-drop, take-append-drop}
-use lib.Seq.{sets-eq, paste, paste-suc, take-all, take-length, length-take-le, take-at, drop-append-add, drop-drop, drop-cons}
+use lib.ListN.{length, getD, take, drop, set, length-append, length-drop, length-replicate, replicate-append-replicate, take-append-drop}
+use lib.Seq.{sets-eq, paste, paste-suc, take-all, take-length, length-take-le, take-at, drop-at, drop-length, drop-append-add, drop-drop, drop-cons}
 use lib.Dec.{eqb, leb}
 use borrow.Author.Tests.{le-leb, lt-leb, leb-true, leb-false, eqb-true, eq-eqb}
-use Rattle.buffers.specs.Bytes.{Bytes, same, onto, over, laid, stored, eight}
+use Rattle.buffers.specs.Bytes.{Bytes, zeros, same, onto, over, laid, stored, eight}
 
 -- the part `&s[k..]`, as the slice rule states it
 pub tail-part : (s : List ℕ) (k : ℕ) → take (length s - k) (drop k s) ≡ drop k s
@@ -24,6 +24,19 @@ bytes-tail a l h i = h (suc i)
 pub bytes-cons : (a : ℕ) (l : List ℕ) → a < 256 → Bytes l → Bytes (a ∷ l)
 bytes-cons a l h k zero = h
 bytes-cons a l h k (suc i) = k i
+
+-- ---- zeros
+
+zeros-cut : (k n : ℕ) → k ≤ n → zeros n ≡ zeros k ++ zeros (n - k)
+zeros-cut k n h =
+    let e : k + (n - k) ≡ n = omega arith in
+    ap zeros (sym e) ∙ sym (replicate-append-replicate k (n - k) 0)
+
+pub take-zeros : (k n : ℕ) → k ≤ n → take k (zeros n) ≡ zeros k
+take-zeros k n h = ap (take k) (zeros-cut k n h) ∙ take-at (zeros k) (zeros (n - k)) k (length-replicate k 0)
+
+pub drop-zeros : (k n : ℕ) → k ≤ n → drop k (zeros n) ≡ zeros (n - k)
+drop-zeros k n h = ap (drop k) (zeros-cut k n h) ∙ drop-at (zeros k) (zeros (n - k)) k (length-replicate k 0)
 
 -- ---- same
 
@@ -172,6 +185,12 @@ laid-nil l at = by-test (leb (at + 0) (length l))
     by-test : (t : Bool) → cond t (over l at []) l ≡ l
     by-test true = over-nil l at
     by-test false = refl
+
+-- bytes as many as those they are laid over
+pub laid-whole : (l b : List ℕ) → length b ≡ length l → laid l 0 b ≡ b
+unfolding onto
+laid-whole l b h =
+    laid-fits l 0 b (omega arith) ∙ over-zero l b ∙ ap (λ (n : ℕ). b ++ drop n l) h ∙ ap (λ (t : List ℕ). b ++ t) (drop-length l) ∙ append-nil b
 
 -- two things laid one after the other, where both fit
 pub laid-laid : (l : List ℕ) (at : ℕ) (a b : List ℕ) → at + length (a ++ b) ≤ length l

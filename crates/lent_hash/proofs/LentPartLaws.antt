@@ -1,7 +1,7 @@
--- Feeding in parts where the host stands: an empty part changes no byte, and what is fed in any list of parts and finished is the digest of the
--- whole. Assumes nothing.
+-- Feeding in parts where the host stands: an empty part changes no byte, two parts are as one, the second of two that are too many is refused, and
+-- what is fed in any list of parts, each of which is taken, and finished is the digest of the whole. Assumes nothing.
 use Prim.Native.Nat.{ℕ, _+_, _≤_}
-use mathlib.Core.Path.{_≡_, refl, sym, ap, _∙_}
+use mathlib.Core.Path.{_≡_, refl, sym, ap, subst, _∙_}
 use mathlib.Core.List.{List, [], _∷_, _++_}
 use mathlib.Core.Bool.{Bool, true, false, cond, _&&_, and-eq-true-iff}
 use native.Mathlib.Omega.{arith}
@@ -16,10 +16,10 @@ use Rattle.sha_words.proofs.PaddingLaws.{length-bytesOf}
 use Rattle.sha2.specs.declared.Hash.{Hash}
 use Rattle.sha2.specs.declared.Fed.{Fed}
 use Rattle.sha2.specs.declared.Digest.{Digest}
-use Rattle.sha2.specs.Hash.{fresh, blank, started, fits, taken, fed, finished, fedAll, allOf}
-use Rattle.sha2.proofs.PartLaws.{fed-empty, fed-fed, taken-total}
-use Rattle.sha2.proofs.WholeLaws.{taken-tail, taken-value, taken-held, fresh-value, fed-parts}
-use Rattle.lent_hash.specs.LentHash.{stateBytes, stateIn, HashLeft, hashLeft, hashStartLeft, hashFeedLeft, hashFinishLeft, hashFeedAllLeft}
+use Rattle.sha2.specs.Hash.{fresh, blank, started, fits, taken, fed, finished, fedAll, AllTaken, allOf}
+use Rattle.sha2.proofs.PartLaws.{fed-empty, fed-fed, fed-first, fed-past, taken-total}
+use Rattle.sha2.proofs.WholeLaws.{taken-tail, taken-value, taken-held, fresh-value, parts-taken, fed-parts}
+use Rattle.lent_hash.specs.LentHash.{stateBytes, stateIn, HashLeft, hashLeft, hashStartLeft, hashFeedLeft, hashFinishLeft, hashFeedAllLeft, HashAllTaken}
 use Rattle.lent_hash.proofs.LentHashLaws.{size-taken, Typed, typed-in, state-back, bytes-back}
 
 -- ---- an empty part
@@ -121,6 +121,27 @@ lent-two b a c g h e =
     ∙ sym (lent-fed s (a ++ c) t)
     ∙ ap (λ (x : List ℕ). hashFeedLeft x (a ++ c)) q
 
+lent-number : (b part : List ℕ) → length b ≡ hashSize → hashFeedLeft b part .number ≡ fed (stateIn b) part .number
+unfolding hashFeedLeft
+lent-number b part h = ap (λ (f : HashLeft). f .number) (sym (size-taken b _ _ h))
+
+-- where the two joined are taken, the first is
+pub lent-first : (b a c : List ℕ) → length b ≡ hashSize → hashFeedLeft b (a ++ c) .number ≡ 0 → hashFeedLeft b a .number ≡ 0
+lent-first b a c h e = lent-number b a h ∙ fed-first (stateIn b) a c (sym (lent-number b (a ++ c) h) ∙ e)
+
+-- where they are too many and the first is taken, the second is refused and changes no byte
+pub lent-past : (b a c : List ℕ) → Bytes b → length b ≡ hashSize → hashFeedLeft b a .number ≡ 0 → hashFeedLeft b (a ++ c) .number ≡ 4
+    → hashFeedLeft (hashFeedLeft b a .bytes) c ≡ hashLeft 4 (hashFeedLeft b a .bytes)
+lent-past b a c g h n e =
+    let s : Hash = stateIn b in
+    let t : Typed s = typed-in b g h in
+    let r : hashFeedLeft b a .bytes ≡ stateBytes (fed s a .hash) =
+    ap (λ (x : List ℕ). hashFeedLeft x a .bytes) (sym (bytes-back b g h)) ∙ ap (λ (f : HashLeft). f .bytes) (lent-fed s a t) in
+    subst (λ (x : List ℕ). hashFeedLeft x c ≡ hashLeft 4 x) (sym r)
+    (lent-fed (fed s a .hash) c (fed-typed s a t)
+    ∙ ap (λ (f : Fed). hashLeft (f .number) (stateBytes (f .hash)))
+    (fed-past s a c (t .tail) (sym (lent-number b a h) ∙ n) (sym (lent-number b (a ++ c) h) ∙ e)))
+
 -- ---- any list of parts
 
 lent-all : (s : Hash) (parts : List (List ℕ)) → Typed s → hashFeedAllLeft (stateBytes s) parts ≡ stateBytes (fedAll s parts)
@@ -145,3 +166,24 @@ lent-parts b kind parts l h m =
     ∙ sym (size-taken (stateBytes f) _ _ (length-state f t))
     ∙ ap (λ (x : Hash). hashLeft (finished x .number) (finished x .bytes)) (state-back f t)
     ∙ ap (λ (d : Digest). hashLeft (d .number) (d .bytes)) (fed-parts kind parts h m)
+
+-- the start is answered 0
+pub lent-started : (b : List ℕ) (kind : ℕ) → length b ≡ hashSize → known kind ≡ true → hashStartLeft b kind .number ≡ 0
+unfolding hashStartLeft started
+lent-started b kind l h = ap (λ (f : HashLeft). f .number) (sym (size-taken b _ _ l)) ∙ rw h
+
+all-lent : (s : Hash) (parts : List (List ℕ)) → Typed s → AllTaken s parts → HashAllTaken (stateBytes s) parts
+all-lent s [] h k = tt
+all-lent s (part ∷ parts) h k =
+    let f = lent-fed s part h in (
+      ap (λ (x : HashLeft). x .number) f ∙ k .0,
+      subst (λ (x : HashLeft). HashAllTaken (x .bytes) parts) (sym f) (all-lent (fed s part .hash) parts (fed-typed s part h) (k .1)),
+    )
+
+-- and so is each part
+pub lent-taken : (b : List ℕ) (kind : ℕ) (parts : List (List ℕ)) → length b ≡ hashSize → known kind ≡ true → length (allOf parts) ≤ hashMost
+    → HashAllTaken (hashStartLeft b kind .bytes) parts
+unfolding hashStartLeft
+lent-taken b kind parts l h m =
+    subst (λ (x : HashLeft). HashAllTaken (x .bytes) parts) (size-taken b _ _ l)
+    (all-lent (started kind .hash) parts (started-typed kind) (parts-taken kind parts h m))

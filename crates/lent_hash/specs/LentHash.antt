@@ -1,13 +1,14 @@
 -- A hash in the bytes that a host lends for it, and what the calls on them answer and leave, by the definitions of those by value. Assumes
 -- nothing.
 use Prim.Native.Nat.{ℕ}
+use mathlib.Core.Path.{_≡_}
 use mathlib.Core.List.{List, [], _∷_, _++_}
 use mathlib.Core.Bool.{cond}
 use lib.ListN.{length, getD, take, drop}
 use lib.Dec.{eqb}
 use Rattle.limits.specs.Limits.{hSize, hashSize}
 use Rattle.buffers.specs.Bytes.{zeros}
-use Rattle.sha_words.specs.Blocks.{numberAt}
+use Rattle.sha_words.specs.Blocks.{wordAt}
 use Rattle.sha_words.specs.Message.{bytesOf}
 use Rattle.sha2.specs.Hash.{started, fed, finished}
 use Rattle.sha2.specs.declared.Hash.{Hash}
@@ -18,7 +19,7 @@ unfoldable pub stateBytes : Hash → List ℕ
 stateBytes s = (s .kind ∷ []) ++ bytesOf 8 (s .total) ++ bytesOf 8 (s .held) ++ s .value ++ s .tail
 
 unfoldable pub stateIn : List ℕ → Hash
-stateIn b = record { kind = getD b 0 0; total = numberAt b 1 8; held = numberAt b 9 8; value = take hSize (drop 17 b); tail = drop 81 b }
+stateIn b = record { kind = getD b 0 0; total = wordAt b 1 8; held = wordAt b 9 8; value = take hSize (drop 17 b); tail = drop 81 b }
 
 -- ---- the calls: on as many bytes as a hash has; on others 4, and they stay
 
@@ -51,3 +52,8 @@ hashFinishLeft b = byHashSize b (hashLeft (finished (stateIn b) .number) (finish
 abbrev pub hashFeedAllLeft : List ℕ → List (List ℕ) → List ℕ
 hashFeedAllLeft b [] = b
 hashFeedAllLeft b (part ∷ parts) = hashFeedAllLeft (hashFeedLeft b part .bytes) parts
+
+-- each of them is answered 0
+abbrev pub HashAllTaken : List ℕ → List (List ℕ) → Type 0
+HashAllTaken b [] = Unit {0}
+HashAllTaken b (part ∷ parts) = (hashFeedLeft b part .number ≡ 0) × HashAllTaken (hashFeedLeft b part .bytes) parts

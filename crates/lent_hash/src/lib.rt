@@ -4,7 +4,7 @@ ghost use mathlib.Core.Path.{_≡_};
 ghost use Prim.Native.Nat.{_+_, _≤_};
 ghost use lib.ListN.{length};
 ghost use Rattle.limits.specs.Limits.{hashSize};
-ghost use Rattle.sha_words.specs.Blocks.{numberAt};
+ghost use Rattle.sha_words.specs.Blocks.{wordAt};
 ghost use Rattle.lent_hash.specs.LentHash.{stateBytes, stateIn, hashLeft, hashStartLeft, hashFeedLeft, hashFinishLeft};
 
 // Where a hash's parts stand; its kind stands first.
@@ -19,7 +19,7 @@ const TAIL_AT: usize = 81;
 // The number in the eight bytes from `at` on.
 fn number_in(h: &[u8], at: usize) -> usize
     requires { ⌜ at + 8 ≤ length (now h) ⌝ }
-    ensures { λ r. ⌜ r ≡ numberAt (now (h .entry)) at 8 ⌝ }
+    ensures { λ r. ⌜ r ≡ wordAt (now (h .entry)) at 8 ⌝ }
 {
     numbers::join_64(
         h[at],

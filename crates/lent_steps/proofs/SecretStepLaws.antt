@@ -11,7 +11,7 @@ use borrow.Author.Tests.{le-leb, eq-eqb, ne-eqb, eqb-true, eqb-false}
 use Rattle.limits.specs.Limits.{blobMost, hashMost, hSize, kSize, exchangeSize, roomLeast, server}
 use Rattle.limits.proofs.RangeLaws.{within-most}
 use Rattle.buffers.specs.Bytes.{zeros, onto, over, laid}
-use Rattle.buffers.proofs.ByteLaws.{length-over, over-over, laid-fits}
+use Rattle.buffers.proofs.ByteLaws.{drop-zeros, length-over, over-over, laid-fits}
 use Rattle.wire.specs.Parts.{part, inside, bytesAt}
 use Rattle.wire.proofs.PartLaws.{inside-fits}
 use Rattle.sha_words.specs.Message.{sha2, sized}
@@ -27,7 +27,7 @@ use Rattle.methods.specs.declared.KForm.the-variants.{Mpint}
 use Rattle.methods.specs.Sound.{Sound}
 use Rattle.secret.specs.Secret.{kBytes, kept}
 use Rattle.secret.specs.declared.Secret.{Secret}
-use Rattle.secret.proofs.SecretLaws.{kept-fits, drop-zeros}
+use Rattle.secret.proofs.SecretLaws.{kept-fits}
 use Rattle.transcript.specs.Fields.{field, fieldLength, around, fieldSize}
 use Rattle.transcript.proofs.RoomLaws.{length-field, take-onto}
 use Rattle.exchange.specs.Causes.{methodOk, secretCause, ownOk, kOf, hOf}

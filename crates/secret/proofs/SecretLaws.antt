@@ -7,14 +7,14 @@ use native.Mathlib.Omega.{arith}
 use native.Mathlib.Nat.{zero-add}
 use native.Mathlib.Numerals.{add-one}
 use lib.ListN.{length, getD, drop, length-drop, length-replicate, length-append, replicate-append-replicate, drop-of-length-le}
-use lib.Seq.{drop-cons, drop-at}
+use lib.Seq.{drop-cons}
 use lib.Dec.{ltb, eqb, eqb·suc-zero}
 use lib.IntN.{pos}
 use borrow.Author.Tests.{le-leb, lt-leb, ltb-true, ltb-false, eqb-false, lt-ltb, le-ltb, ne-eqb}
 use Rattle.limits.specs.Limits.{stringMost, kSize}
 use Rattle.buffers.specs.Bytes.{zeros, over, laid}
 use Rattle.wire.specs.Strings.{bytes32, string}
-use Rattle.buffers.proofs.ByteLaws.{over-over, laid-fits, length-over}
+use Rattle.buffers.proofs.ByteLaws.{drop-zeros, over-over, laid-fits, length-over}
 use Rattle.wire.specs.declared.StringRead.{StringRead}
 use Rattle.wire.proofs.StringLaws.{length-string}
 use Rattle.wire.proofs.RoundTrip.{string-complete, body-string}
@@ -120,13 +120,6 @@ k-read Digest x d t h =
     (ap (λ (r : StringRead). r .number) (string-complete d t n), body-string d t n)
 
 -- ---- kept
-
-pub drop-zeros : (n m : ℕ) → n ≤ m → drop n (zeros m) ≡ zeros (m - n)
-drop-zeros n m h =
-    let e : n + (m - n) ≡ m = omega arith in
-    ap (λ (k : ℕ). drop n (zeros k)) (sym e)
-    ∙ ap (drop n) (sym (replicate-append-replicate n (m - n) 0))
-    ∙ drop-at (zeros n) (zeros (m - n)) n (length-replicate n 0)
 
 -- what is laid over a record of zeros
 over-zeros : (k : List ℕ) → length k ≤ kSize → over (zeros kSize) 0 k ≡ k ++ zeros (kSize - length k)

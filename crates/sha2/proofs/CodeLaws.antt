@@ -2,7 +2,7 @@
 -- the message's end. Assumes nothing.
 use Prim.Native.Nat.{ℕ, _+_, _-_, _*_, _%_, _≤_, _<_}
 use mathlib.Core.Path.{_≡_, sym, ap, _∙_}
-use mathlib.Core.List.{List, [], _∷_, _++_, append-assoc}
+use mathlib.Core.List.{List, [], _++_, append-assoc}
 use native.Mathlib.Omega.{arith}
 use lib.ListN.{length, take, drop, length-append, take-append-drop}
 use lib.Seq.{drop-append-le, drop-append-add, length-take-le}
@@ -14,7 +14,7 @@ use Rattle.sha_words.specs.Constants.{widthOf}
 use Rattle.sha_words.specs.Message.{bytesOf, padding, padded, behind, sized, valueAfter}
 use Rattle.sha_words.proofs.SizedLaws.{length-sized, take-sized, take-sized-more}
 use Rattle.sha_words.proofs.ChainLaws.{length-behind, behind-parts}
-use Rattle.sha_words.proofs.PaddingLaws.{Sizes, sizes-of, ends-one, ends-two, counted}
+use Rattle.sha_words.proofs.PaddingLaws.{Sizes, sizes-of, begun, length-begun, ends-one, ends-two, counted}
 use Rattle.sha_words.proofs.ValueLaws.{valueAfter-then, valueAfter-parts}
 use Rattle.sha2.specs.declared.Hash.{Hash}
 use Rattle.sha2.specs.Hash.{waiting, grown, Ending}
@@ -79,40 +79,33 @@ module _ (kind : ℕ) (v before : List ℕ) (total : ℕ) (ending : Ending kind 
   sizes : Sizes p
   sizes = sizes-of kind
 
-  -- what waits and the bit 1
-  abbrev begun : List ℕ
-  begun = before ++ (128 ∷ [])
-
   abbrev count : List ℕ
   count = bytesOf 3 (8 * total)
 
-  length-begun : length begun ≡ length before + 1
-  length-begun = length-append before (128 ∷ [])
-
   -- in one block
   pub last-one : (b x : List ℕ) (n : ℕ) → n ≡ p .block → length before + 1 + 2 * p .bytes ≤ p .block
-      → b ≡ laid (sized blockMost begun) (p .block - 3) count → x ≡ valueAfter p v (take n b)
+      → b ≡ laid (sized blockMost (begun before)) (p .block - 3) count → x ≡ valueAfter p v (take n b)
       → x ≡ valueAfter p v (before ++ padding p total)
   last-one b x n z h eb ex =
       ex ∙ ap (λ (k : ℕ). valueAfter p v (take k b)) z ∙ ap (λ (t : List ℕ). valueAfter p v (take (p .block) t)) eb
       ∙ ap (valueAfter p v) (
-      counted p before total sizes (ending .waits) (ending .most) begun (omega (arith, length-begun, sizes .three))
+      counted p before total sizes (ending .waits) (ending .most) (begun before) (omega (arith, length-begun before, sizes .three))
       ∙ sym (ends-one p before total sizes (ending .waits) (ending .most) h))
 
   -- in two
   pub last-two : (a b x y : List ℕ) (n : ℕ) → n ≡ p .block → p .block < length before + 1 + 2 * p .bytes → length before < p .block
-      → a ≡ sized blockMost begun → x ≡ valueAfter p v (take n a)
+      → a ≡ sized blockMost (begun before) → x ≡ valueAfter p v (take n a)
       → b ≡ laid (sized blockMost []) (p .block - 3) count → y ≡ valueAfter p x (take n b)
       → y ≡ valueAfter p v (before ++ padding p total)
   last-two a b x y n z h less ea ex eb ey =
-      let l : length begun ≤ p .block = omega (arith, length-begun) in
-      let f : take n a ≡ sized (p .block) begun =
-      ap (λ (k : ℕ). take k a) z ∙ ap (take (p .block)) ea ∙ take-sized-more blockMost (p .block) begun l (sizes .most) in
+      let l : length (begun before) ≤ p .block = omega (arith, length-begun before) in
+      let f : take n a ≡ sized (p .block) (begun before) =
+      ap (λ (k : ℕ). take k a) z ∙ ap (take (p .block)) ea ∙ take-sized-more blockMost (p .block) (begun before) l (sizes .most) in
       let g : take n b ≡ sized (p .block - 3) [] ++ count =
       ap (λ (k : ℕ). take k b) z ∙ ap (take (p .block)) eb
       ∙ counted p before total sizes (ending .waits) (ending .most) [] (omega arith) in
       ey ∙ ap (valueAfter p x) g ∙ ap (λ (t : List ℕ). valueAfter p t (sized (p .block - 3) [] ++ count)) (ex ∙ ap (valueAfter p v) f)
-      ∙ valueAfter-then p v (sized (p .block) begun) (sized (p .block - 3) [] ++ count) sizes (length-sized (p .block) begun l)
+      ∙ valueAfter-then p v (sized (p .block) (begun before)) (sized (p .block - 3) [] ++ count) sizes (length-sized (p .block) (begun before) l)
       ∙ ap (valueAfter p v) (sym (ends-two p before total sizes (ending .waits) (ending .most) h))
 
 -- ---- two parts, to their end

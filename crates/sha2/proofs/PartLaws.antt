@@ -1,6 +1,6 @@
--- Feeding in parts: two parts are as one, and an empty part changes nothing. Assumes nothing.
-use Prim.Native.Nat.{ℕ, _+_, _%_, _≤_}
-use mathlib.Core.Path.{_≡_, refl, sym, ap, _∙_}
+-- Feeding in parts: two parts are as one, the second of two that are too many is refused, and an empty part changes nothing. Assumes nothing.
+use Prim.Native.Nat.{ℕ, _+_, _%_, _≤_, _<_}
+use mathlib.Core.Path.{_≡_, refl, sym, ap, subst, _∙_}
 use mathlib.Core.List.{List, [], _∷_, _++_, append-assoc, append-nil}
 use mathlib.Core.Bool.{Bool, true, false, cond, _&&_, and-eq-true-iff}
 use native.Mathlib.Omega.{arith}
@@ -8,7 +8,7 @@ use native.Mathlib.Nat.{mod-add-mod}
 use lib.Dec.{leb}
 use lib.ListN.{length, take, length-append}
 use lib.Seq.{length-take-le}
-use borrow.Author.Tests.{le-leb, leb-true, eq-eqb}
+use borrow.Author.Tests.{le-leb, leb-true, leb-false, eq-eqb}
 use Rattle.limits.specs.Limits.{hashMost, blockMost}
 use Rattle.sha_words.specs.Words.{Width}
 use Rattle.sha_words.specs.Constants.{widthOf}
@@ -20,7 +20,7 @@ use Rattle.sha_words.proofs.ValueLaws.{valueAfter-parts}
 use Rattle.sha2.specs.declared.Hash.{Hash}
 use Rattle.sha2.specs.declared.Fed.{Fed}
 use Rattle.sha2.specs.Hash.{fits, waiting, grown, taken, fed}
-use Rattle.sha2.proofs.StateLaws.{Fitting, fitting, fed-taken}
+use Rattle.sha2.proofs.StateLaws.{Fitting, fitting, fed-long, fed-taken}
 
 -- ---- grown
 
@@ -97,3 +97,26 @@ fed-fed s a b l e =
     ∙ sym (fed-taken (taken s a) b (taken-fits s a l (t .0) (omega (arith, t .1))) (omega (arith, t .1, taken-total s a)))
     ∙ ap (λ (h : Hash). record { number = 0; hash = h }) (taken-taken s a b)
     ∙ fed-taken s (a ++ b) (t .0) (t .1)
+
+-- of two parts whose joined feed is taken, the first is taken
+pub fed-first : (s : Hash) (a b : List ℕ) → fed s (a ++ b) .number ≡ 0 → fed s a .number ≡ 0
+fed-first s a b e =
+    let t = fed-so s (a ++ b) e in
+    sym (ap (λ (f : Fed). f .number) (fed-taken s a (t .0) (omega (arith, t .1, length-append a b))))
+
+-- what is refused of a state that fits is too long
+fed-over : (s : Hash) (m : List ℕ) → fits s ≡ true → fed s m .number ≡ 4 → hashMost < s .total + length m
+fed-over s m h e = by-test (leb (s .total + length m) hashMost) refl
+  where
+    by-test : (t : Bool) → leb (s .total + length m) hashMost ≡ t → hashMost < s .total + length m
+    by-test true q = absurd (omega (arith, ap (λ (f : Fed). f .number) (fed-taken s m h (leb-true (s .total + length m) hashMost q))))
+    by-test false q = leb-false (s .total + length m) hashMost q
+
+-- where the two together would be too many, the first is taken and the second is refused and changes nothing
+pub fed-past : (s : Hash) (a b : List ℕ) → length (s .tail) ≡ blockMost → fed s a .number ≡ 0 → fed s (a ++ b) .number ≡ 4
+    → fed (fed s a .hash) b ≡ record { number = 4; hash = fed s a .hash }
+fed-past s a b l h e =
+    let t = fed-so s a h in
+    let o : hashMost < s .total + length (a ++ b) = fed-over s (a ++ b) (t .0) e in
+    subst (λ (f : Fed). fed (f .hash) b ≡ record { number = 4; hash = f .hash }) (fed-taken s a (t .0) (t .1))
+    (sym (fed-long (taken s a) b (taken-fits s a l (t .0) (t .1)) (omega (arith, length-append a b, taken-total s a))))

@@ -4,7 +4,7 @@ ghost use Prim.Native.Nat.{_+_, _*_, _≤_};
 ghost use lib.ListN.{length};
 ghost use Rattle.sha_words.specs.Words.{Σ0, Σ1, σ0, σ1};
 ghost use Rattle.sha_words.specs.Constants.{bits64};
-ghost use Rattle.sha_words.specs.Blocks.{numberAt, mixed, round as oneRound, roundsOf, schedule as wordsOf, sums as sumsOf, next as nextOf, after};
+ghost use Rattle.sha_words.specs.Blocks.{wordAt, mixed, round as oneRound, roundsOf, schedule as wordsOf, sums as sumsOf, next as nextOf, after};
 ghost use Rattle.sha_words.specs.Message.{bytesOf, wordsAt, valueOf, valueAfter};
 ghost use Rattle.sha_512.specs.Variables.{working};
 use std::num::wrapping_add_u64;
@@ -49,7 +49,7 @@ fn small_sigma1(x: u64) -> u64
 
 fn word(b: &[u8], at: usize) -> u64
     requires { ⌜ at + 8 ≤ length (now b) ⌝ }
-    ensures { λ r. ⌜ r ≡ numberAt (now (b .entry)) at 8 ⌝ }
+    ensures { λ r. ⌜ r ≡ wordAt (now (b .entry)) at 8 ⌝ }
 {
     numbers::join_64(
         b[at],

@@ -8,7 +8,7 @@ use lib.ListN.{length, getD, take, drop, set, length-append}
 use lib.Seq.{take-suc-set, getD-take}
 use borrow.Author.Tests.{lt-ltb, le-ltb}
 use Rattle.sha_words.specs.Words.{Width}
-use Rattle.sha_words.specs.Blocks.{numberAt, mixed, W, schedule, Working, round, roundsOf, working, sums, next, hashAfter}
+use Rattle.sha_words.specs.Blocks.{wordAt, mixed, W, schedule, Working, round, roundsOf, working, sums, next, hashAfter}
 
 -- ---- schedule
 
@@ -29,7 +29,7 @@ word-stored p b m t v h e q = rw add-one (take-suc-set m t v h ∙ rw (e, q))
 
 -- one of the block's own sixteen
 pub word-first : (p : Width) (b m : List ℕ) (t v : ℕ) → t < length m → t < 16 → take t m ≡ schedule p b t
-    → v ≡ numberAt b (p .bytes * t) (p .bytes) → take (t + 1) (set m t v) ≡ schedule p b (t + 1)
+    → v ≡ wordAt b (p .bytes * t) (p .bytes) → take (t + 1) (set m t v) ≡ schedule p b (t + 1)
 unfolding W
 word-first p b m t v h l e q = word-stored p b m t v h e (q ∙ rw (lt-ltb t 16 l))
 

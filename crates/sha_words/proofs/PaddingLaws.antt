@@ -7,13 +7,13 @@ use lib.Dec.{ltb, eqb}
 use borrow.Author.Tests.{ltb-true, ltb-false}
 use native.Mathlib.Omega.{arith}
 use native.Mathlib.Numerals.{add-one}
-use native.Mathlib.Nat.{mod-add-mod, mod-eq-of-lt, mod-self, add-mod-mod, mod-eq-sub-mod, mod-lt, add-assoc}
+use native.Mathlib.Nat.{mod-add-mod, mod-eq-of-lt, mod-self, add-mod-mod, mod-eq-sub-mod, mod-lt, mod-le, mul-mod-right, add-mul-mod-self-left, div-add-mod, add-assoc}
 use lib.ListN.{length, take, length-append, length-replicate, replicate-append-replicate}
 use Rattle.limits.specs.Limits.{hashMost, blockMost, hSize}
 use Rattle.buffers.specs.Bytes.{zeros, laid}
 use Rattle.sha_words.specs.Words.{Width}
 use Rattle.sha_words.specs.Constants.{bits32, bits64, widthOf}
-use Rattle.sha_words.specs.Message.{bytesOf, zeroBytes, padding, padded, sized}
+use Rattle.sha_words.specs.Message.{bytesOf, pads, zeroBytes, padding, padded, sized}
 use Rattle.sha_words.proofs.SizedLaws.{take-laid}
 
 -- ---- what both widths have
@@ -24,14 +24,15 @@ pub record Sizes (p : Width) : Type 0 where
   pub room : 2 * p .bytes + 1 ≤ p .block
   pub three : 3 ≤ 2 * p .bytes
   pub words : p .block ≡ 16 * p .bytes
+  pub bits : p .w ≡ 8 * p .bytes
   pub eight : p .bytes * 8 ≤ hSize
   pub power : 2 ^ p .w ≡ 256 ^ p .bytes
 
 pub sizes32 : Sizes bits32
-sizes32 = record { positive = omega arith; most = omega arith; room = omega arith; three = omega arith; words = refl; eight = omega arith; power = refl }
+sizes32 = record { positive = omega arith; most = omega arith; room = omega arith; three = omega arith; words = refl; bits = refl; eight = omega arith; power = refl }
 
 pub sizes64 : Sizes bits64
-sizes64 = record { positive = omega arith; most = omega arith; room = omega arith; three = omega arith; words = refl; eight = omega arith; power = refl }
+sizes64 = record { positive = omega arith; most = omega arith; room = omega arith; three = omega arith; words = refl; bits = refl; eight = omega arith; power = refl }
 
 pub sizes-of : (kind : ℕ) → Sizes (widthOf kind)
 sizes-of kind = by-test (eqb kind 32)
@@ -84,10 +85,46 @@ fill-whole b x p =
     let e : x % b + (b - x % b) ≡ b = omega (arith, mod-lt x p) in
     add-mod-mod x (b - x % b) b ∙ sym (mod-add-mod x b (b - x % b)) ∙ ap (λ (n : ℕ). n % b) e ∙ mod-self b
 
--- 5.1: no fewer zeros do
-pub zeroBytes-least : (p : Width) (n : ℕ) → 0 < p .block → zeroBytes p n < p .block
+fill-least : (b x k : ℕ) → (x + k) % b ≡ 0 → (b - x % b) % b ≤ k
+fill-least b x k h = by-test (ltb (x % b + k) b) refl
+  where
+    by-test : (t : Bool) → ltb (x % b + k) b ≡ t → (b - x % b) % b ≤ k
+    by-test true e =
+        let s : (x % b + k) % b ≡ x % b + k = mod-eq-of-lt (ltb-true (x % b + k) b e) in
+        let z : x % b ≡ 0 = omega (arith, mod-add-mod x b k) in
+        let y : b - 0 ≡ b = omega arith in
+        rw (z, y, mod-self b) (omega arith)
+    by-test false e = omega (arith, ltb-false (x % b + k) b e, mod-le (b - x % b) b)
+
+-- 5.1: the zeros pad the message; the byte that begins with the bit 1 has seven of them
+pub zeroBytes-pad : (p : Width) (n : ℕ) → Sizes p → pads p (8 * n) (7 + 8 * zeroBytes p n)
 unfolding zeroBytes
-zeroBytes-least p n h = mod-lt (p .block - (n + 1 + 2 * p .bytes) % p .block) h
+zeroBytes-pad p n sizes =
+    let b : ℕ = p .block in
+    let x : ℕ = n + 1 + 2 * p .bytes in
+    let z : ℕ = zeroBytes p n in
+    by-blocks ((x + z) / b) (omega (arith, div-add-mod (x + z) b, fill-whole b x (sizes .positive)))
+  where
+    by-blocks : (q : ℕ) → p .block * q ≡ n + 1 + 2 * p .bytes + zeroBytes p n → pads p (8 * n) (7 + 8 * zeroBytes p n)
+    by-blocks zero e = absurd (omega arith)
+    by-blocks (suc q) e =
+        let m : ℕ = 8 * p .block in
+        let r : ℕ = m - 2 * p .w in
+        let l : 8 * n + 1 + (7 + 8 * zeroBytes p n) ≡ r + m * q = omega (arith, sizes .bits, sizes .words) in
+        ap (λ (k : ℕ). k % m) l ∙ add-mul-mod-self-left r m q ∙ mod-eq-of-lt (omega (arith, sizes .bits, sizes .positive))
+
+-- and no fewer do
+pub zeroBytes-least : (p : Width) (n k : ℕ) → Sizes p → pads p (8 * n) k → 7 + 8 * zeroBytes p n ≤ k
+unfolding zeroBytes
+zeroBytes-least p n k sizes h =
+    let b : ℕ = p .block in
+    let x : ℕ = n + 1 + 2 * p .bytes in
+    let m : ℕ = 8 * b in
+    let q : ℕ = (8 * n + 1 + k) / m in
+    let e : m * q + (8 * b - 2 * p .w) ≡ 8 * n + 1 + k = ap (λ (r : ℕ). m * q + r) (sym h) ∙ div-add-mod (8 * n + 1 + k) m in
+    let s : k ≡ 7 + 8 * (k / 8) = omega (arith, sizes .bits, sizes .words) in
+    let t : x + k / 8 ≡ b * (q + 1) = omega (arith, sizes .bits, sizes .words) in
+    omega (arith, fill-least b x (k / 8) (ap (λ (r : ℕ). r % b) t ∙ mul-mod-right b (q + 1)))
 
 -- 5.2: a padded message is whole blocks
 pub padded-whole : (p : Width) (m : List ℕ) → 0 < p .block → length (padded p m) % p .block ≡ 0
@@ -104,17 +141,17 @@ padded-whole p m h =
     ) in
     ap (λ (n : ℕ). n % p .block) e ∙ fill-whole (p .block) x h
 
+-- what waits and the bit 1
+abbrev pub begun : List ℕ → List ℕ
+begun before = before ++ (128 ∷ [])
+
+pub length-begun : (before : List ℕ) → length (begun before) ≡ length before + 1
+length-begun before = length-append before (128 ∷ [])
+
 -- the end of a message of `total` bytes, of which `before` stand behind the last whole block
 module _ (p : Width) (before : List ℕ) (total : ℕ) (sizes : Sizes p) (waits : length before ≡ total % p .block) (most : total ≤ hashMost) where
   abbrev filler : ℕ
   filler = length before + 1 + 2 * p .bytes
-
-  -- what waits and the bit 1
-  abbrev begun : List ℕ
-  begun = before ++ (128 ∷ [])
-
-  length-begun : length begun ≡ length before + 1
-  length-begun = length-append before (128 ∷ [])
 
   less : length before < p .block
   less = omega (arith, waits, mod-lt total (sizes .positive))
@@ -134,7 +171,7 @@ module _ (p : Width) (before : List ℕ) (total : ℕ) (sizes : Sizes p) (waits 
   zeros-two h = rw reduced (fill-two (p .block) filler h (omega (arith, less, sizes .room)))
 
   -- the message's end with the zeros of the count among the others
-  ends : (n : ℕ) → zeroBytes p total + (2 * p .bytes - 3) ≡ n → before ++ padding p total ≡ begun ++ zeros n ++ bytesOf 3 (8 * total)
+  ends : (n : ℕ) → zeroBytes p total + (2 * p .bytes - 3) ≡ n → before ++ padding p total ≡ begun before ++ zeros n ++ bytesOf 3 (8 * total)
   unfolding padding
   ends n e =
       let k : ℕ = 2 * p .bytes - 3 in
@@ -150,23 +187,23 @@ module _ (p : Width) (before : List ℕ) (total : ℕ) (sizes : Sizes p) (waits 
       ∙ ap (λ (l : List ℕ). l ++ c) (sym (append-assoc before (128 ∷ []) (zeros n)))
 
   -- in one block
-  pub ends-one : filler ≤ p .block → before ++ padding p total ≡ sized (p .block - 3) begun ++ bytesOf 3 (8 * total)
+  pub ends-one : filler ≤ p .block → before ++ padding p total ≡ sized (p .block - 3) (begun before) ++ bytesOf 3 (8 * total)
   unfolding sized
-  ends-one h = ends (p .block - 3 - length begun) (omega (arith, zeros-one h, length-begun, sizes .three))
+  ends-one h = ends (p .block - 3 - length (begun before)) (omega (arith, zeros-one h, length-begun before, sizes .three))
 
   -- in two
-  pub ends-two : p .block < filler → before ++ padding p total ≡ sized (p .block) begun ++ (sized (p .block - 3) [] ++ bytesOf 3 (8 * total))
+  pub ends-two : p .block < filler → before ++ padding p total ≡ sized (p .block) (begun before) ++ (sized (p .block - 3) [] ++ bytesOf 3 (8 * total))
   unfolding sized
   ends-two h =
       let b : ℕ = p .block in
-      let n : ℕ = b - length begun in
+      let n : ℕ = b - length (begun before) in
       let c : List ℕ = bytesOf 3 (8 * total) in
       let d : b - 3 - 0 ≡ b - 3 = omega arith in
-      ends (n + (b - 3)) (omega (arith, zeros-two h, length-begun, sizes .three, sizes .room, less))
-      ∙ ap (λ (l : List ℕ). begun ++ l ++ c) (sym (replicate-append-replicate n (b - 3) 0))
-      ∙ ap (λ (l : List ℕ). l ++ c) (sym (append-assoc begun (zeros n) (zeros (b - 3))))
-      ∙ append-assoc (begun ++ zeros n) (zeros (b - 3)) c
-      ∙ ap (λ (m : ℕ). begun ++ zeros n ++ (zeros m ++ c)) (sym d)
+      ends (n + (b - 3)) (omega (arith, zeros-two h, length-begun before, sizes .three, sizes .room, less))
+      ∙ ap (λ (l : List ℕ). begun before ++ l ++ c) (sym (replicate-append-replicate n (b - 3) 0))
+      ∙ ap (λ (l : List ℕ). l ++ c) (sym (append-assoc (begun before) (zeros n) (zeros (b - 3))))
+      ∙ append-assoc (begun before ++ zeros n) (zeros (b - 3)) c
+      ∙ ap (λ (m : ℕ). begun before ++ zeros n ++ (zeros m ++ c)) (sym d)
 
   -- the block that the code lays the count in
   pub counted : (l : List ℕ) → length l ≤ p .block - 3

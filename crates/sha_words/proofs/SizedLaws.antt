@@ -4,26 +4,11 @@ use mathlib.Core.Path.{_≡_, sym, ap, _∙_}
 use mathlib.Core.List.{List, [], _++_}
 use native.Mathlib.Omega.{arith}
 use native.Mathlib.Nat.{zero-add}
-use lib.ListN.{length, take, drop, length-append, length-replicate, replicate-append-replicate}
-use lib.Seq.{take-at, drop-at, take-append-add, length-take-le}
+use lib.ListN.{length, take, drop, length-append, length-replicate}
+use lib.Seq.{take-at, take-append-add, length-take-le}
 use Rattle.buffers.specs.Bytes.{zeros, onto, over, laid}
-use Rattle.buffers.proofs.ByteLaws.{laid-laid, laid-fits, over-zero}
+use Rattle.buffers.proofs.ByteLaws.{take-zeros, drop-zeros, laid-laid, laid-fits, over-zero}
 use Rattle.sha_words.specs.Message.{sized}
-
--- ---- zeros
-
-zeros-cut : (n k : ℕ) → k ≤ n → zeros n ≡ zeros k ++ zeros (n - k)
-zeros-cut n k h =
-    let e : k + (n - k) ≡ n = omega arith in
-    ap zeros (sym e) ∙ sym (replicate-append-replicate k (n - k) 0)
-
-drop-zeros : (n k : ℕ) → k ≤ n → drop k (zeros n) ≡ zeros (n - k)
-drop-zeros n k h = ap (drop k) (zeros-cut n k h) ∙ drop-at (zeros k) (zeros (n - k)) k (length-replicate k 0)
-
-take-zeros : (n k : ℕ) → k ≤ n → take k (zeros n) ≡ zeros k
-take-zeros n k h = ap (take k) (zeros-cut n k h) ∙ take-at (zeros k) (zeros (n - k)) k (length-replicate k 0)
-
--- ---- sized
 
 pub length-sized : (n : ℕ) (l : List ℕ) → length l ≤ n → length (sized n l) ≡ n
 unfolding sized
@@ -44,12 +29,12 @@ unfolding sized
 take-sized-more n k l h g =
     let e : length l + (k - length l) ≡ k = omega arith in
     ap (λ (m : ℕ). take m (l ++ zeros (n - length l))) (sym e) ∙ take-append-add l (zeros (n - length l)) (k - length l)
-    ∙ ap (λ (t : List ℕ). l ++ t) (take-zeros (n - length l) (k - length l) (omega arith))
+    ∙ ap (λ (t : List ℕ). l ++ t) (take-zeros (k - length l) (n - length l) (omega arith))
 
 pub laid-sized : (n : ℕ) (l : List ℕ) → length l ≤ n → laid (zeros n) 0 l ≡ sized n l
 unfolding sized onto
 laid-sized n l h =
-    laid-fits (zeros n) 0 l (omega (arith, length-replicate {A = ℕ} n 0)) ∙ over-zero (zeros n) l ∙ ap (λ (t : List ℕ). l ++ t) (drop-zeros n (length l) h)
+    laid-fits (zeros n) 0 l (omega (arith, length-replicate {A = ℕ} n 0)) ∙ over-zero (zeros n) l ∙ ap (λ (t : List ℕ). l ++ t) (drop-zeros (length l) n h)
 
 -- two lists, one behind the other
 pub joined-sized : (n : ℕ) (a b : List ℕ) → length a + length b ≤ n → laid (laid (zeros n) 0 a) (length a) b ≡ sized n (a ++ b)

@@ -13,7 +13,7 @@ use lib.Pow.{pow-pos}
 use lib.Seq.{take-at, take-suc, getD-at, length-take-le}
 use Rattle.buffers.specs.Bytes.{laid}
 use Rattle.sha_words.specs.Words.{Width}
-use Rattle.sha_words.specs.Blocks.{numberAt, Working, sums, next, hashAfter, after}
+use Rattle.sha_words.specs.Blocks.{wordAt, Working, sums, next, hashAfter, after}
 use Rattle.sha_words.specs.Message.{bytesOf, wordBytes, wordsAt, behind, sized, valueOf, valueAfter}
 use Rattle.sha_words.proofs.SizedLaws.{laid-sized, joined-sized}
 use Rattle.sha_words.proofs.ChainLaws.{after-parts, after-short, behind-short, behind-block}
@@ -53,19 +53,19 @@ take-wordBytes k s i n h e =
 
 -- ---- words read again
 
-pub number-bytes : (n x : ℕ) (a b : List ℕ) → x < 256 ^ n → numberAt (a ++ (bytesOf n x ++ b)) (length a) n ≡ x
-number-bytes zero x a b h = omega arith
-number-bytes (suc n) x a b h =
+pub word-read : (n x : ℕ) (a b : List ℕ) → x < 256 ^ n → wordAt (a ++ (bytesOf n x ++ b)) (length a) n ≡ x
+word-read zero x a b h = omega arith
+word-read (suc n) x a b h =
     let u : List ℕ = bytesOf n (x / 256) in
     let d : ℕ = x % 256 in
     let l : List ℕ = a ++ (u ++ (d ∷ b)) in
     let e : a ++ ((u ++ (d ∷ [])) ++ b) ≡ l = ap (λ (t : List ℕ). a ++ t) (append-assoc u (d ∷ []) b) in
     let g : x < 256 ^ n * 256 = rw pow-suc at h in
-    let i : numberAt l (length a) n ≡ x / 256 = number-bytes n (x / 256) a (d ∷ b) (omega arith) in
+    let i : wordAt l (length a) n ≡ x / 256 = word-read n (x / 256) a (d ∷ b) (omega arith) in
     let s : length (a ++ u) ≡ length a + n = length-append a u ∙ ap (λ (k : ℕ). length a + k) (length-bytesOf n (x / 256)) in
     let j : getD l (length a + n) 0 ≡ d =
     ap (λ (t : List ℕ). getD t (length a + n) 0) (sym (append-assoc a u (d ∷ b))) ∙ getD-at (a ++ u) d b 0 (length a + n) s in
-    ap (λ (t : List ℕ). numberAt t (length a) n * 256 + getD t (length a + n) 0) e
+    ap (λ (t : List ℕ). wordAt t (length a) n * 256 + getD t (length a + n) 0) e
     ∙ ap (λ (k : ℕ). k * 256 + getD l (length a + n) 0) i
     ∙ ap (λ (k : ℕ). x / 256 * 256 + k) j
     ∙ omega arith
@@ -83,8 +83,8 @@ words-read n (x ∷ ws) a b h =
     let e : a ++ ((u ++ r) ++ b) ≡ a ++ (u ++ (r ++ b)) = ap (λ (t : List ℕ). a ++ t) (append-assoc u r b) in
     let f : a ++ (u ++ (r ++ b)) ≡ (a ++ u) ++ (r ++ b) = sym (append-assoc a u (r ++ b)) in
     let s : length a + n ≡ length (a ++ u) = sym (length-append a u ∙ ap (λ (k : ℕ). length a + k) (length-bytesOf n x)) in
-    ap (λ (t : List ℕ). numberAt t (length a) n ∷ wordsAt t (length a + n) n (length ws)) e
-    ∙ ap (λ (k : ℕ). k ∷ wordsAt (a ++ (u ++ (r ++ b))) (length a + n) n (length ws)) (number-bytes n x a (r ++ b) (h .0))
+    ap (λ (t : List ℕ). wordAt t (length a) n ∷ wordsAt t (length a + n) n (length ws)) e
+    ∙ ap (λ (k : ℕ). k ∷ wordsAt (a ++ (u ++ (r ++ b))) (length a + n) n (length ws)) (word-read n x a (r ++ b) (h .0))
     ∙ ap (λ (t : List ℕ). x ∷ wordsAt t (length a + n) n (length ws)) f
     ∙ ap (λ (k : ℕ). x ∷ wordsAt ((a ++ u) ++ (r ++ b)) k n (length ws)) s
     ∙ ap (λ (t : List ℕ). x ∷ t) (words-read n ws (a ++ u) b (h .1))

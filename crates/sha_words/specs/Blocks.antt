@@ -7,10 +7,10 @@ use lib.ListN.{length, getD, take, drop}
 use lib.Dec.{ltb}
 use Rattle.sha_words.specs.Words.{Width, add, Ch, Maj, Σ0, Σ1, σ0, σ1}
 
--- 3.1: the number of n bytes of b from `at` on, the highest first
-abbrev pub numberAt : List ℕ → ℕ → ℕ → ℕ
-numberAt b at zero = 0
-numberAt b at (suc n) = numberAt b at n * 256 + getD b (at + n) 0
+-- 3.1: the word of n bytes of b from `at` on, the highest byte first
+abbrev pub wordAt : List ℕ → ℕ → ℕ → ℕ
+wordAt b at zero = 0
+wordAt b at (suc n) = wordAt b at n * 256 + getD b (at + n) 0
 
 -- ---- step 1: the message schedule
 
@@ -22,7 +22,7 @@ mixed p w2 w7 w15 w16 = add (p .w) (add (p .w) (add (p .w) (σ1 p w2) w7) (σ0 p
 unfoldable pub W : Width → List ℕ → ℕ → List ℕ → ℕ
 W p b t before =
     cond (ltb t 16)
-    (numberAt b (p .bytes * t) (p .bytes))
+    (wordAt b (p .bytes * t) (p .bytes))
     (mixed p (getD before (t - 2) 0) (getD before (t - 7) 0) (getD before (t - 15) 0) (getD before (t - 16) 0))
 
 -- W_0 to W_t, of those ahead of it

@@ -1,6 +1,7 @@
 -- FIPS 180-4, sections 5.1, 5.2 and 6: a message of whole bytes padded, parsed into blocks, and hashed; and a hash value as bytes.
 -- Assumes nothing.
 use Prim.Native.Nat.{ℕ, zero, suc, _+_, _-_, _*_, _/_, _%_}
+use mathlib.Core.Path.{_≡_}
 use mathlib.Core.List.{List, [], _∷_, _++_}
 use mathlib.Core.Bool.{cond}
 use lib.ListN.{length, take, drop}
@@ -9,7 +10,7 @@ use Rattle.limits.specs.Limits.{hSize}
 use Rattle.buffers.specs.Bytes.{zeros}
 use Rattle.sha_words.specs.Words.{Width}
 use Rattle.sha_words.specs.Constants.{widthOf, initial}
-use Rattle.sha_words.specs.Blocks.{numberAt, after}
+use Rattle.sha_words.specs.Blocks.{wordAt, after}
 
 -- ---- 3.1: numbers and words as bytes
 
@@ -26,9 +27,13 @@ wordBytes n (x ∷ ws) = bytesOf n x ++ wordBytes n ws
 -- so many words of n bytes each, from `at` on
 abbrev pub wordsAt : List ℕ → ℕ → ℕ → ℕ → List ℕ
 wordsAt b at n zero = []
-wordsAt b at n (suc k) = numberAt b at n ∷ wordsAt b (at + n) n k
+wordsAt b at n (suc k) = wordAt b at n ∷ wordsAt b (at + n) n k
 
 -- ---- 5.1: padding
+
+-- k zero bits behind the bit 1 pad a message of l bits: l + 1 + k ≡ 448 mod 512, for words of 64 bits 896 mod 1024
+abbrev pub pads : Width → ℕ → ℕ → Type 0
+pads p l k = (l + 1 + k) % (8 * p .block) ≡ 8 * p .block - 2 * p .w
 
 -- the fewest zero bytes after which n bytes, the byte that begins with the bit 1, and two words end with a block
 unfoldable pub zeroBytes : Width → ℕ → ℕ

@@ -1,15 +1,15 @@
 -- Bytes and the exchanges that they hold: a law for each `return`, and what goes by the bytes. Assumes nothing.
-use Prim.Native.Nat.{ℕ, _+_, _-_, _≤_, _<_}
+use Prim.Native.Nat.{ℕ, _+_, _≤_, _<_}
 use mathlib.Core.Path.{_≡_, refl, sym, ap, _∙_}
-use mathlib.Core.List.{List, [], _++_, append-nil}
+use mathlib.Core.List.{List, [], _++_}
 use mathlib.Core.Bool.{Bool, true, false, _&&_, false≢true}
 use native.Mathlib.Omega.{arith}
-use lib.ListN.{length, getD, drop, length-append, length-drop, drop-of-length-le}
+use lib.ListN.{length, getD, drop, length-append, length-drop}
 use lib.Dec.{eqb}
 use borrow.Author.Tests.{eq-eqb, ne-eqb, eqb-true, le-leb, lt-leb}
 use Rattle.limits.specs.Limits.{kSize, exchangeSize, exchangeMark}
-use Rattle.buffers.specs.Bytes.{zeros, onto, laid}
-use Rattle.buffers.proofs.ByteLaws.{over-zero, laid-fits, laid-nil, laid-laid}
+use Rattle.buffers.specs.Bytes.{zeros, laid}
+use Rattle.buffers.proofs.ByteLaws.{laid-nil, laid-whole, laid-laid}
 use Rattle.exchange.specs.Record.{noLengths}
 use Rattle.exchange.specs.declared.Stage.{Stage}
 use Rattle.exchange.specs.declared.Lengths.{Lengths}
@@ -43,11 +43,6 @@ module _ (m s f : ℕ) (h : m ≡ exchangeMark) where
   stage-below g n = rw (h, le-leb s 6 g, ne-eqb s 6 n)
 
 -- ---- laid over the whole
-
-laid-whole : (l b : List ℕ) → length b ≡ length l → laid l 0 b ≡ b
-unfolding onto
-laid-whole l b e =
-    laid-fits l 0 b (omega arith) ∙ over-zero l b ∙ ap (λ (d : List ℕ). b ++ d) (drop-of-length-le l {i = length b} (omega arith)) ∙ append-nil b
 
 pub laid-two : (l a b : List ℕ) (n : ℕ) → length a ≡ n → n + length b ≡ length l → laid (laid l 0 a) n b ≡ a ++ b
 laid-two l a b n e h =

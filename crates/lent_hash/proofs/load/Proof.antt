@@ -6,9 +6,8 @@ use lib.ListN.{getD, take, drop, length-drop}
 use lib.Seq.{length-take-le}
 use Rattle.limits.specs.Limits.{hSize, blockMost}
 use Rattle.buffers.specs.Bytes.{zeros, laid}
-use Rattle.buffers.proofs.ByteLaws.{tail-part}
+use Rattle.buffers.proofs.ByteLaws.{tail-part, laid-whole}
 use Rattle.lent_hash.specs.LentHash.{stateIn}
-use Rattle.lent_hash.proofs.LentHashLaws.{laid-whole}
 use borrow.Author.Needs.{needs}
 use Rattle.lent_hash.proofs.load.Statement.{statement}
 use Rattle.lent_hash.proofs.load.Tie as tie
