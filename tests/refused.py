@@ -54,9 +54,11 @@ def programs(path):
 
 
 def first_error(lines, wanted):
+    """The first error that is wanted, with the lines that belong to it."""
     for i, line in enumerate(lines):
-        if wanted(line):
-            return "\n".join(lines[i : i + 4])
+        if ": error" in line and wanted(line):
+            more = next((k for k, l in enumerate(lines[i + 1 :]) if ": error" in l or l.startswith("fn ")), len(lines))
+            return "\n".join(lines[i : i + 1 + min(more, 3)])
     return ""
 
 
@@ -74,7 +76,7 @@ def judge(crate, path, source, log):
         own = [f for f in functions if any(re.match(rf"fn {crate}::(\w+::)*{f}: (not proved|no proof)(?!.*; it calls)", line) for line in lines)]
         if functions and not own:
             yield f"{name}: {' and '.join(sorted(functions))} is not refused by itself"
-        error = first_error(lines, lambda line: ": error" in line and (not own or any(f"/proofs/{f}/" in line for f in own)))
+        error = first_error(lines, lambda line: not own or any(f"/proofs/{f}/" in line for f in own))
         if SHAPE.search(error):
             yield f"{name}: refused by its shape alone: {error[-160:]}"
 
@@ -103,7 +105,8 @@ def main():
     if not sys.argv[1:]:
         edited = {c for c in crates if glob.glob(f"crates/{c}/must-fail/*.edit")}
         cited = set(re.findall(r"`(\w+/\w+)`", open("docs/PROMISES.md", encoding="utf-8").read()))
-        faults += [f"docs/PROMISES.md names {c}, which is not there" for c in sorted(cited - labels) if c.split("/")[0] in edited and not os.path.exists(f"crates/{c}") ]
+        strange = [c for c in sorted(cited - labels) if c.split("/")[0] in edited and not os.path.exists(f"crates/{c}")]
+        faults += [f"docs/PROMISES.md names {c}, which is not there" for c in strange]
     for fault in faults:
         print("refused:", fault)
     print(f"refused: {len(labels)} wrong programs in {files} edits, {len(faults)} faults")
