@@ -9,6 +9,7 @@ its file:, old: and new: lines. rt asks only that a file be refused. This asks o
 - a function whose text it changes is not proved, by itself and not for a callee, so that the refusal is the program's own;
 - no other program of the file changes that function;
 - the first error there is a fact that no longer holds, and not a proof that no longer fits the code's shape;
+- the changed contracts and definitions themselves make sense;
 and that docs/PROMISES.md names no program that is not there.
 """
 import glob
@@ -66,6 +67,9 @@ def judge(crate, path, source, log):
     """What is wrong with the programs of one file."""
     lines = open(log, encoding="utf-8", errors="replace").read().splitlines()
     found = programs(path)
+    senseless = first_error(lines, lambda line: re.search(r"/(src|specs)/[^ ]*: error", line))
+    if senseless:
+        yield f"{path}: not refused by a proof, its own text makes no sense: {senseless[-200:]}"
     for p in found:
         p["functions"] = {f for file, old in p["pairs"] if file.startswith("src/") for f in source.around(file, old)}
     for p in found:
