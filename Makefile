@@ -26,7 +26,7 @@ vectors:
 	python3 tests/expect_in_place.py --check
 	python3 tests/expect_sha2.py --check
 
-# The static library, for speed and for size: proved first (some three minutes from nothing), and left alone where nothing that it is made
+# The static library, for speed and for size: proved first (some five minutes from nothing), and left alone where nothing that it is made
 # of changed. TARGET names another machine to build it for, one of TARGETS or several; those archives go into build/TARGET/.
 lib:
 	@sh host/lib.sh $(sort x86-64 $(TARGET))
