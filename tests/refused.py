@@ -6,8 +6,8 @@ usage: refused.py [CRATE ...]      (at the repository's top)
 An .edit file holds one wrong program, or several of one crate that are tried at once, since each trial proves the whole crate again. A program
 begins with its lines '# rules out: FUNCTION: what', may name itself by a line '# label: NAME' (else the file's name is its own), and goes on with
 its file:, old: and new: lines. rt asks only that a file be refused. This asks of each program in it that
-- a function whose text it changes is not proved, by itself and not for a callee, so that the refusal is the program's own;
-- no other program of the file changes that function;
+- where it changes functions, one of them is not proved, by itself and not for a callee, so that the refusal is the program's own;
+- no other program of the file changes the same function;
 - the first error there is a fact that no longer holds, and not a proof that no longer fits the code's shape;
 - the changed contracts and definitions themselves make sense;
 and that docs/PROMISES.md names no program that is not there.
