@@ -7,7 +7,7 @@ use denote.Ref.{now}
 use Rattle.limits.specs.Limits.{roomLeast}
 use Rattle.buffers.specs.Bytes.{onto}
 use Rattle.exchange.specs.Causes.{startCause, hOf}
-use Rattle.exchange.specs.Steps.{Call, secret, sign, verdict, number, countOf, secondOf, answered, secretAnswered, replyOf, started, startedRoom}
+use Rattle.exchange.specs.Steps.{Call, secret, sign, verdict, number, countOf, secondOf, answered, secretAnswered, replyOf, outputAfter, started, startedRoom}
 use Rattle.exchange.specs.Book.{Book, opened, noted, lastBook, hashInput}
 use Rattle.exchange.specs.declared.Step.{Step}
 use Rattle.exchange.specs.declared.SecretStep.{SecretStep}
@@ -15,8 +15,10 @@ use Rattle.exchange.specs.declared.Exchange.{Exchange}
 use Rattle.exchange.proofs.StepLaws.{step-accepted, output-accepted}
 use Rattle.exchange.proofs.Simulation.{Sim, followed}
 use Rattle.exchange.proofs.HandedLaws.{secret-handed, secret-hashed, book-method, sign-handed, verdict-handed}
+use Rattle.keys.specs.KeysTold.{keyTold}
+use Rattle.keys.proofs.OutputLaws.{derived-told}
 use Rattle.demand.specs.Told.{Told}
-use Rattle.demand.specs.HandedOut.{SecretHandsOut, SignHandsOut, VerdictHandsOut, HandedOut}
+use Rattle.demand.specs.HandedOut.{SecretHandsOut, SignHandsOut, VerdictHandsOut, KeyHandsOut, HandedOut}
 use Rattle.demand.proofs.Holds.{AsDefined, runs}
 
 -- exchange and room follow the book
@@ -92,5 +94,13 @@ verdict-hands-out b₀ room₀ calls numbers κs a r s d t z =
     let h = verdict-handed room₀ b (a .0) (now (a .1 .0)) (f .0) (f .1) (a .1 .1 .0) (a .1 .1 .1 .0) (length (now (a .1 .1 .1 .1 .0))) n in
     (t .2 ∙ sym (output-accepted _ (now (a .1 .1 .1 .1 .0)) (a .0 .k) n) ∙ ap (onto (now (a .1 .1 .1 .1 .0))) (h .0), count-none r (a .0) (now (a .1 .0)) q (t .0) z ∙ h .1)
 
+key-hands-out : KeyHandsOut
+key-hands-out b₀ room₀ calls numbers room κs a r s d t =
+    let b = lastBook (length room₀) b₀ calls in
+    let out = now (a .1 .1 .1 .0) in
+    let w = derived-told room₀ b (a .0) room (follows d .1) (a .1 .0) (a .1 .1 .0) out in
+    let n = t .0 ∙ w .0 in
+    (n, t .1 ∙ w .1 ∙ ap (λ (m : ℕ). outputAfter m out (keyTold b (a .1 .0) (a .1 .1 .0))) (sym n))
+
 pub handed-out : HandedOut
-handed-out = record { secret-step = secret-hands-out; signature = sign-hands-out; verdict = verdict-hands-out }
+handed-out = record { secret-step = secret-hands-out; signature = sign-hands-out; verdict = verdict-hands-out; key = key-hands-out }

@@ -1,4 +1,4 @@
--- What a further call hands out after an accepted start and any history, by the book of the same calls: the hash input, H, REPLY, and K.
+-- What a further call hands out after an accepted start and any history, by the book of the same calls: the hash input, H, REPLY, K, and the keys.
 -- The call is told by `Reads.Learnt` of its own function, as in the history. Assumes nothing.
 use Prim.Native.Nat.{ℕ}
 use mathlib.Core.Path.{_≡_}
@@ -11,7 +11,7 @@ use borrow.Fn.World.{ArgsD}
 use Rattle.buffers.specs.Bytes.{onto}
 use Rattle.messages.specs.Messages.{replyBytes, fieldOf}
 use Rattle.exchange.specs.Causes.{replyCause, hOf}
-use Rattle.exchange.specs.Steps.{Call, secret, kRecord}
+use Rattle.exchange.specs.Steps.{Call, secret, kRecord, outputAfter}
 use Rattle.exchange.specs.Book.{Book, noted, lastBook, hashInput}
 use Rattle.exchange.specs.declared.Step.{Step}
 use Rattle.exchange.specs.declared.SecretStep.{SecretStep}
@@ -21,6 +21,9 @@ use Rattle.server.proofs.sign as sign-fn
 use Rattle.server.proofs.sign.Reads as sign-reads
 use Rattle.client.proofs.verdict as verdict-fn
 use Rattle.client.proofs.verdict.Reads as verdict-reads
+use Rattle.keys.specs.KeysTold.{keyTold, causeTold}
+use Rattle.derive.proofs.derive as derive-fn
+use Rattle.derive.proofs.derive.Reads as derive-reads
 use Rattle.demand.specs.Told.{Told}
 
 -- an accepted secret step counts the hash input, the room begins with it, and the H that was handed out is its hash, by the method that was
@@ -62,8 +65,19 @@ VerdictHandsOut =
     → let b = lastBook (length room₀) b₀ calls in
     (now (s .1 .1 .1 .1 .0) ≡ onto (now (a .1 .1 .1 .1 .0)) (kRecord (b .fields .k))) × (r .count ≡ length (b .fields .k))
 
--- all three
+-- a call that derives, accepted or not, answers by the book and leaves the output as the book tells it: the six keys are a function of the book
+abbrev pub KeyHandsOut : Type 0
+KeyHandsOut =
+    (b₀ : Book) (room₀ : List ℕ) (calls : List Call) (numbers room : List ℕ)
+    (κs : Lfts 1) (a : ArgsD derive-fn.signature κs) (r : ℕ) (s : AtExit derive-fn.ended κs)
+    → Told b₀ room₀ calls numbers (a .0) room → derive-reads.Learnt κs a r s
+    → let b = lastBook (length room₀) b₀ calls in
+    let out = now (a .1 .1 .1 .0) in
+    (r ≡ causeTold b (a .1 .0) (a .1 .1 .0) (length out)) × (now (s .1 .1 .1 .0) ≡ outputAfter r out (keyTold b (a .1 .0) (a .1 .1 .0)))
+
+-- all four
 pub record HandedOut : Type 0 where
   pub secret-step : SecretHandsOut
   pub signature : SignHandsOut
   pub verdict : VerdictHandsOut
+  pub key : KeyHandsOut

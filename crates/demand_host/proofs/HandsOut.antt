@@ -7,7 +7,7 @@ use denote.Ref.{now}
 use Rattle.limits.specs.Limits.{roomLeast}
 use Rattle.buffers.specs.Bytes.{onto}
 use Rattle.exchange.specs.Causes.{hOf}
-use Rattle.exchange.specs.Steps.{Call, secret, sign, verdict, number, countOf, secondOf, answered, replyOf, started, startedRoom}
+use Rattle.exchange.specs.Steps.{Call, secret, sign, verdict, number, countOf, secondOf, answered, replyOf, outputAfter, started, startedRoom}
 use Rattle.exchange.specs.Book.{Book, opened, noted, lastBook, hashInput}
 use Rattle.exchange.specs.Demand.{lastExchange}
 use Rattle.exchange.specs.declared.Step.{Step}
@@ -16,12 +16,15 @@ use Rattle.exchange.proofs.StepLaws.{step-accepted, output-accepted}
 use Rattle.exchange.proofs.Simulation.{Sim}
 use Rattle.exchange.proofs.HandedLaws.{secret-handed, secret-hashed, book-method, sign-handed, verdict-handed}
 use Rattle.arguments.specs.Arguments.{isYes, classicalOf, kemOf}
-use Rattle.stored.specs.Stored.{encoded, decoded}
+use Rattle.stored.specs.Stored.{encoded, decoded, byFit}
 use Rattle.lent.specs.Lent.{tells, lentCall}
+use Rattle.keys.specs.Derived.{deriveCause, keyIn}
+use Rattle.keys.specs.KeysTold.{keyTold}
+use Rattle.keys.proofs.OutputLaws.{derived-told}
 use Rattle.demand.proofs.HandsOut.{followed-there}
 use Rattle.demand_host.specs.Told.{Told}
-use Rattle.demand_host.specs.HandedOut.{SecretHandsOut, SignHandsOut, VerdictHandsOut, HandedOut}
-use Rattle.lent.proofs.Kept.{Storable}
+use Rattle.demand_host.specs.HandedOut.{SecretHandsOut, SignHandsOut, VerdictHandsOut, KeyHandsOut, HandedOut}
+use Rattle.lent.proofs.Kept.{Storable, lent-is-step}
 use Rattle.lent.proofs.AsStep.{as-step}
 use Rattle.demand_host.proofs.Links.{found}
 use Rattle.demand_host.proofs.Holds.{runs, as-defined}
@@ -138,5 +141,21 @@ verdict-hands-out b₀ room₀ calls numbers κs a r s d t z =
     let h = verdict-handed room₀ b e room (f .least) (f .sim) u v (length p) n in
     (ap front (l .outputs-are) ∙ sym (output-accepted _ p (e .k) n) ∙ ap (onto p) (h .0), ap first (l .told-is) ∙ count-none e room q n ∙ h .1)
 
+key-hands-out : KeyHandsOut
+key-hands-out b₀ room₀ calls numbers room κs a r s d t =
+    let f = follows d in
+    let b = lastBook (length room₀) b₀ calls in
+    let ex = now (a .0) in
+    let e = decoded ex in
+    let out = now (a .1 .1 .1 .0) in
+    let c = ap (λ (y : List ℕ). byFit y (deriveCause (decoded y) (a .1 .0) (a .1 .1 .0) (length out)) 1) (f .stored) ∙ lent-is-step (λ (x : Exchange). deriveCause x (a .1 .0) (a .1 .1 .0) (length out)) 1 e (f .storable) in
+    let w = derived-told room₀ b e room (f .sim) (a .1 .0) (a .1 .1 .0) out in
+    let n = t .0 ∙ c ∙ w .0 in (
+      n,
+      t .1 ∙ ap (λ (m : ℕ). outputAfter m out (keyIn e (a .1 .0) (a .1 .1 .0))) c
+          ∙ w .1
+          ∙ ap (λ (m : ℕ). outputAfter m out (keyTold b (a .1 .0) (a .1 .1 .0))) (sym n),
+    )
+
 pub handed-out : HandedOut
-handed-out = record { secret-step = secret-hands-out; signature = sign-hands-out; verdict = verdict-hands-out }
+handed-out = record { secret-step = secret-hands-out; signature = sign-hands-out; verdict = verdict-hands-out; key = key-hands-out }

@@ -1,5 +1,5 @@
 -- What a further call of an export hands out after an accepted start and any history, by the book of the same calls: the hash input, H,
--- REPLY, and K. The call is told by `Reads.Learnt` of its own export, as in the history. Assumes nothing.
+-- REPLY, K, and the keys. The call is told by `Reads.Learnt` of its own export, as in the history. Assumes nothing.
 use Prim.Native.Nat.{ℕ}
 use mathlib.Core.Path.{_≡_}
 use mathlib.Core.List.{List, [], _∷_}
@@ -11,7 +11,7 @@ use borrow.Fn.World.{ArgsD}
 use Rattle.buffers.specs.Bytes.{onto}
 use Rattle.messages.specs.Messages.{replyBytes, fieldOf}
 use Rattle.exchange.specs.Causes.{replyCause, hOf}
-use Rattle.exchange.specs.Steps.{Call, secret, kRecord}
+use Rattle.exchange.specs.Steps.{Call, secret, kRecord, outputAfter}
 use Rattle.exchange.specs.Book.{Book, noted, lastBook, hashInput}
 use Rattle.arguments.specs.Arguments.{classicalOf, kemOf}
 use Rattle.boundary.proofs.castulfrisa_take_secret as take-secret-fn
@@ -20,6 +20,9 @@ use Rattle.boundary.proofs.castulfrisa_sign as sign-fn
 use Rattle.boundary.proofs.castulfrisa_sign.Reads as sign-reads
 use Rattle.boundary.proofs.castulfrisa_verdict as verdict-fn
 use Rattle.boundary.proofs.castulfrisa_verdict.Reads as verdict-reads
+use Rattle.keys.specs.KeysTold.{keyTold, causeTold}
+use Rattle.boundary.proofs.castulfrisa_derive as derive-fn
+use Rattle.boundary.proofs.castulfrisa_derive.Reads as derive-reads
 use Rattle.demand_host.specs.Told.{Told}
 
 -- an accepted secret step counts the hash input, the room begins with it, and the H that was handed out is its hash, by the method that was
@@ -61,8 +64,19 @@ VerdictHandsOut =
     → let b = lastBook (length room₀) b₀ calls in
     (now (s .1 .1 .1 .1 .0) ≡ onto (now (a .1 .1 .1 .1 .0)) (kRecord (b .fields .k))) × (now (s .1 .1 .1 .1 .1 .0) ≡ length (b .fields .k))
 
--- all three
+-- a call that derives, accepted or not, answers by the book and leaves the output as the book tells it: the six keys are a function of the book
+abbrev pub KeyHandsOut : Type 0
+KeyHandsOut =
+    (b₀ : Book) (room₀ : List ℕ) (calls : List Call) (numbers room : List ℕ)
+    (κs : Lfts 2) (a : ArgsD derive-fn.signature κs) (r : ℕ) (s : AtExit derive-fn.ended κs)
+    → Told b₀ room₀ calls numbers (now (a .0)) room → derive-reads.Learnt κs a r s
+    → let b = lastBook (length room₀) b₀ calls in
+    let out = now (a .1 .1 .1 .0) in
+    (r ≡ causeTold b (a .1 .0) (a .1 .1 .0) (length out)) × (now (s .1 .1 .1 .0) ≡ outputAfter r out (keyTold b (a .1 .0) (a .1 .1 .0)))
+
+-- all four
 pub record HandedOut : Type 0 where
   pub secret-step : SecretHandsOut
   pub signature : SignHandsOut
   pub verdict : VerdictHandsOut
+  pub key : KeyHandsOut

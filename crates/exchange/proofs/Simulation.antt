@@ -350,7 +350,7 @@ silent l b (q ∷ qs) = (λ h. ones l (noted l b q) qs (faulted l b q h), silent
 
 -- ---- what the relation says at the end
 
-complete-sim : (room : List ℕ) (b : Book) (e : Exchange) (room′ : List ℕ) → Sim room b e room′ → isComplete (e .stage) ≡ hasAll b
+pub complete-sim : (room : List ℕ) (b : Book) (e : Exchange) (room′ : List ℕ) → Sim room b e room′ → isComplete (e .stage) ≡ hasAll b
 unfolding hasAll
 complete-sim room b e room′ (live s x y) = rw x (complete-of-book s)
 complete-sim room b e room′ (dead n x f y w v z) = rw (x, y)

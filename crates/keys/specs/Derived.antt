@@ -12,12 +12,13 @@ use Rattle.exchange.specs.Record.{kLength, completed}
 use Rattle.exchange.specs.declared.Exchange.{Exchange}
 use Rattle.keys.specs.Keys.{keyOf}
 
--- 1 unless the exchange is complete and its record fits; 4 for a letter that is not A to F, or a length that is not 1 to 128; 5 for an output of fewer bytes
+-- 4 for a letter that is not A to F, or a length that is not 1 to 128; 5 for an output of fewer bytes
+abbrev pub deriveFed : ℕ → ℕ → ℕ → ℕ
+deriveFed letter len out = causeUnless (within letterFirst letterLast letter && within 1 keyMost len) 4 (causeIf (ltb out len) 5 0)
+
+-- 1 unless the exchange is complete and its record fits; then what it is fed
 unfoldable pub deriveCause : Exchange → ℕ → ℕ → ℕ → ℕ
-deriveCause e letter len out =
-    causeUnless (completed e) 1
-    (causeUnless (within letterFirst letterLast letter && within 1 keyMost len) 4
-    (causeIf (ltb out len) 5 0))
+deriveCause e letter len out = causeUnless (completed e) 1 (deriveFed letter len out)
 
 -- K as it is recorded, by its own length and with its four length bytes; H, by the digest's length
 abbrev pub recordedK : Exchange → List ℕ

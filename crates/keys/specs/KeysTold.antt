@@ -1,0 +1,21 @@
+-- A key by the book, which never sees the exchange. Assumes nothing.
+use Prim.Native.Nat.{ℕ}
+use mathlib.Core.List.{List}
+use Rattle.sha_words.specs.Message.{sha2}
+use Rattle.wire.specs.Causes.{causeUnless}
+use Rattle.methods.specs.Rows.{rowOf}
+use Rattle.exchange.specs.Book.{Book, hasAll, hashInput}
+use Rattle.keys.specs.Keys.{keyOf}
+use Rattle.keys.specs.Derived.{deriveFed}
+
+-- the digest of the hash input, by the book's method
+abbrev pub digestTold : Book → List ℕ
+digestTold b = sha2 (rowOf (b .method) .«digest_len») (hashInput (b .fields))
+
+-- the six keys are a function of the book: K is its K, and the digest of its hash input is H and the session identifier
+abbrev pub keyTold : Book → ℕ → ℕ → List ℕ
+keyTold b letter len = keyOf (rowOf (b .method) .«digest_len») (b .fields .k) (digestTold b) letter (digestTold b) len
+
+-- and so is the number: 1 unless the book has every step of its role
+abbrev pub causeTold : Book → ℕ → ℕ → ℕ → ℕ
+causeTold b letter len out = causeUnless (hasAll b) 1 (deriveFed letter len out)
