@@ -118,7 +118,7 @@ def hostile_clients(programs, dock):
         p, code, out, err = against_server(dock, play, Turn("hybrids", 0), "--host-key", programs.key(ED25519))
         try:
             need(p.must == (FAULT, number), "no INIT was due")
-            judge(p.must, code, out, err, p.seen)
+            judge(p.must, code, out, err, p)
         except Failure as e:
             raise Failure(f"method {method}, C {c[:8].hex()}.. of {len(c)} bytes: {e}") from None
     return f"{len(cases)} values of C refused"
