@@ -465,6 +465,8 @@ def connected(play, p, rng):
         play(p, rng)
     except Closed:
         pass
+    except Unsealed as e:
+        raise Failure(f"what it sent does not open: {e}") from None
     p.finish()
 
 

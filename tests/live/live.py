@@ -279,6 +279,7 @@ def guesses(programs, dock):
                 need(found["H"] == p.h.hex(), "H", found["H"], "and not", p.h.hex())
                 need(found["X begins"] == p.x[:2].hex(), "X begins", found["X begins"])
                 need(p.holds, "the signature does not hold")
+                need(p.done, "it ended before its good-bye")
             except Failure as e:
                 raise Failure(f"guess {i}: {e}") from None
 

@@ -67,7 +67,8 @@ class Peer:
     def __init__(self, sock, timeout=60):
         self.sock, self.seen, self.at = sock, b"", 0
         self.sent, self.got = 0, 0  # packets
-        self.opens, self.closes, self.past = None, None, False  # a Seal for each direction; whether both NEWKEYS have gone by
+        self.opens, self.closes = None, None  # a Seal for each direction
+        self.past, self.done = False, False  # both NEWKEYS have gone by; and all behind them
         sock.settimeout(timeout)
         sock.setsockopt(socket.IPPROTO_TCP, socket.TCP_NODELAY, 1)
 

@@ -47,9 +47,10 @@ def flip(data, at, bit):
 
 
 def tag_flipped(p, rng):
+    """In its last byte, or anywhere."""
     p.must = mac_of(p)
     data = p.closes.close(p.due)
-    p.send(flip(data, rng.randrange(len(data) - p.closes.tag_len, len(data)), rng.randrange(8)))
+    p.send(flip(data, len(data) - (1 if rng.turn < len(MACS) else rng.randint(1, p.closes.tag_len)), rng.randrange(8)))
 
 
 def bytes_flipped(p, rng):
@@ -114,6 +115,7 @@ def served(p, seals, strict, *ahead):
         p.send(p.closes.close(payload(p.closes) if callable(payload) else payload))
     need(p.serves or p.read() == service(ACCEPT), "no SERVICE_ACCEPT")
     need(p.read()[:5] == disconnect(11)[:5], "no DISCONNECT at the end")
+    p.done = True
 
 
 def largest(seal):
@@ -182,9 +184,9 @@ def words_in_strict(p, rng):
 
 
 SEALED = [
-    (8, "MAC flipped", behind(tag_flipped)), (8, "bytes flipped", behind(bytes_flipped)), (10, "length flipped", behind(length_flipped)),
-    (10, "counted otherwise", behind(counted_otherwise)), (4, "sent twice", behind(sent_twice)), (4, "left out", behind(left_out)),
-    (12, "other keys", behind(other_keys)), (4, "in the clear", behind(in_the_clear)), (11, "packet length", behind(bad_length)),
+    (8, "MAC flipped", behind(tag_flipped)), (5, "bytes flipped", behind(bytes_flipped)), (5, "length flipped", behind(length_flipped)),
+    (5, "counted otherwise", behind(counted_otherwise)), (4, "sent twice", behind(sent_twice)), (4, "left out", behind(left_out)),
+    (6, "other keys", behind(other_keys)), (4, "in the clear", behind(in_the_clear)), (11, "packet length", behind(bad_length)),
     (7, "padding", behind(bad_padding)), (12, "not due", behind(not_due)), (5, "another service", behind(other_service)),
-    (4, "DISCONNECT", behind(disconnects)), (8, "early close", behind(closes)), (9, "words in a strict exchange", words_in_strict),
+    (4, "DISCONNECT", behind(disconnects)), (8, "early close", behind(closes)), (6, "words in a strict exchange", words_in_strict),
 ]
