@@ -152,7 +152,8 @@ static bool choose_seals(struct kex *k)
 static bool choose_strict(struct kex *k)
 {
     bool client = k->role == CASTULFRISA_CLIENT;
-    k->link.strict = !k->set->not_strict && has_name(client ? k->is : k->ic, CASTULFRISA_LIST_KEX, text_span(client ? STRICT_SERVER : STRICT_CLIENT));
+    span theirs = text_span(client ? STRICT_SERVER : STRICT_CLIENT);
+    k->link.strict = !k->set->not_strict && has_name(client ? k->is : k->ic, CASTULFRISA_LIST_KEX, theirs);
     return !k->link.strict || k->link.coming.sequence == 1 || peer_fault(&k->link, "KEXINIT is not the first packet of a strict key exchange");
 }
 
@@ -251,7 +252,8 @@ static bool exchange_newkeys(struct kex *k)
     seal_begin(&l->going, l->strict);
     if (!link_receive(l, &payload)) return false;
     if (payload.len == 0 || payload.at[0] != MESSAGE_NEWKEYS || payload.len != sizeof newkeys)
-        return peer_fault(l, "message %u of %lu bytes where NEWKEYS is due", payload.len > 0 ? (unsigned)payload.at[0] : 0, (unsigned long)payload.len);
+        return peer_fault(l, "message %u of %lu bytes where NEWKEYS is due", payload.len > 0 ? (unsigned)payload.at[0] : 0,
+                          (unsigned long)payload.len);
     seal_begin(&l->coming, l->strict);
     show(l->show, "<-", "NEWKEYS", (long)payload.len, -1, -1);
     return true;

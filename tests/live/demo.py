@@ -13,8 +13,8 @@ import tempfile
 sys.dont_write_bytecode = True
 from programs import METHODS, Dock, Failure, Programs, end_on_signals, need, results
 
-WORDS = ("direction, message, its length, the core's number for the step, the room filled so far. Behind NEWKEYS packets are encrypted and have a\n"
-         "MAC, with keys that the core derived: their lengths are those of what was decrypted")
+WORDS = ("direction, message, its length, the core's number for the step, the room filled so far.\nBehind NEWKEYS packets are encrypted and have a MAC, "
+         "with keys that the core derived: their lengths are those of what was decrypted")
 
 
 def told(title, out):
@@ -43,7 +43,8 @@ def demo(programs, dock):
     code, out, err = dock.end(process)
     need(code == 0, err.strip())
     results(out)
-    told(f"dock as server, {version} as client, {METHODS[1]}: its NEWKEYS says that it accepts our signature, and its last words that it reads our packets", out + said)
+    told(f"dock as server, {version} as client, {METHODS[1]}: its NEWKEYS says that it accepts our signature, its last words that it reads our packets",
+         out + said)
 
     port = programs.sshd()
     other = programs.write("other", f"[127.0.0.1]:{port} ssh-ed25519 {'A' * 43}=\n")

@@ -11,7 +11,7 @@ import struct
 import time
 
 from peer import (ACCEPT, BASE_U, DEBUG, DISCONNECT, IGNORE, INIT, KEXINIT, NEWKEYS, PASSED_OVER, REPLY, REQUEST, SEALS, UNIMPLEMENTED, Closed,
-                  Ed25519, Peer, Unsealed, disconnect, ed25519_holds, exchange_hash, kexinit, packet, payloads, service, string, take_string, x25519)
+                  Ed25519, Peer, Unsealed, disconnect, ed25519_holds, exchange_hash, kexinit, packet, service, string, take_string, x25519)
 from programs import METHODS, Failure, need
 
 FAULT, QUIET = "fault", "quiet"

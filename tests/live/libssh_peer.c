@@ -1,6 +1,6 @@
-/* One key exchange by libssh, as server or as client, on the loopback, and the first service behind it: no more than its own calls for them. It ends
-   with 0 where libssh says that the exchange is done, which as client means that the signature over H held, and that the service was accepted; else with
-   its words on standard error.
+/* One key exchange by libssh, as server or as client, on the loopback, and the first service behind it: no more than its own calls for them. It
+   ends with 0 where libssh says that the exchange is done, which as client means that the signature over H held, and that the service was
+   accepted; else with its words on standard error.
    usage: libssh_peer server PORT METHOD HOST_KEY_FILE | client PORT METHOD */
 #include <libssh/libssh.h>
 #include <libssh/server.h>

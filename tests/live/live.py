@@ -283,7 +283,7 @@ def guesses(programs, dock):
             except Failure as e:
                 raise Failure(f"guess {i}: {e}") from None
 
-        # a guess is dropped once: the next bad packet is judged; a right guess is not dropped; and a strict exchange has no words, wherever they stand
+        # a guess is dropped once: the next bad packet is judged; a right guess is not dropped; and a strict exchange takes no words at all
         strict = "within a strict key exchange"
         refused = [(11, client_play(second + b"," + first, ed25519, True, wrong + junk)), (11, client_play(first, ed25519, True, junk)),
                    (strict, client_play(second + b"," + first + STRICT_C, ed25519, True, CLEAR_WORDS + junk)),

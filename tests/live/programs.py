@@ -200,7 +200,7 @@ class Programs:
         return subprocess.run([*self.ssh_command, "-V"], capture_output=True, text=True).stderr
 
     def ssh(self, port, method, host_key, known_hosts, **more):
-        """ssh against a server on the loopback; it ends with an error, because the server goes no further than the first service. more: its options."""
+        """ssh against a server on the loopback; it ends with an error, because the first service is all there is. more: its options."""
         options = {
             "KexAlgorithms": METHODS[method], "HostKeyAlgorithms": host_key, "UserKnownHostsFile": known_hosts,
             "GlobalKnownHostsFile": "/dev/null", "StrictHostKeyChecking": "yes", "BatchMode": "yes", "IdentityAgent": "none",
@@ -249,7 +249,7 @@ class Dock:
 
 
 def results(out, service=True):
-    """The lines of a completed exchange by name; fails on any line more or less. Lines of --show are left out. service: and of the first service."""
+    """The lines of a completed exchange, and of the service behind it, by name; fails on any line more or less. Lines of --show are left out."""
     found, names = {}, ["method", "host key", "known", "H", "X begins", "to server", "to client", "strict", "NEWKEYS"] + ["service"] * service
     for line in out.splitlines():
         if line[:2] in ("->", "<-", "  "):

@@ -69,8 +69,8 @@ def length_flipped(p, rng):
 def counted_otherwise(p, rng):
     p.must = mac_of(p)
     right = p.closes.sequence
-    # the last: as if packets were counted the other way, strict or not
-    p.closes.sequence = rng.case([right + 1, (right - 1) % 2**32, right ^ 1 << 31, p.sent if p.strict else 0, right + 256])
+    other_way = p.sent if p.strict else 0  # strict where it is not, and the other way round
+    p.closes.sequence = rng.case([other_way, right + 1, (right - 1) % 2**32, right ^ 1 << 31, right + 256])
     p.send(p.closes.close(p.due))
 
 
@@ -140,9 +140,10 @@ def bad_padding(p, rng):
 
 def not_due(p, rng):
     other = service(REQUEST if p.serves else ACCEPT)
+    payloads = [b"", p.due[:1], p.due[:-1], p.due + b"\0", other, bytes([0]) + p.due[1:], bytes([NEWKEYS]), kexinit(KEX, b"ssh-ed25519"),
+                bytes([7]) + bytes(4), bytes([30]) + string(bytes(32)), bytes([50]), bytes([255])]
     p.must = PROTOCOL_ERROR, "is due"
-    p.send(p.closes.close(rng.case([b"", p.due[:1], p.due[:-1], p.due + b"\0", other, bytes([0]) + p.due[1:], bytes([NEWKEYS]),
-                                    kexinit(KEX, b"ssh-ed25519"), bytes([7]) + bytes(4), bytes([30]) + string(bytes(32)), bytes([50]), bytes([255])])))
+    p.send(p.closes.close(rng.case(payloads)))
 
 
 def other_service(p, rng):

@@ -18,8 +18,8 @@ uint64_t __real_castulfrisa_verdict(
     uint8_t *exchange, uint64_t exchange_len, uint8_t *room, uint64_t room_len, uint64_t signature, uint64_t host_key, uint8_t *k_out,
     uint64_t k_out_len, uint64_t *count);
 uint64_t __real_castulfrisa_sign(
-    uint8_t *exchange, uint64_t exchange_len, const uint8_t *room, uint64_t room_len, const uint8_t *signature, uint64_t signature_len, uint8_t *out,
-    uint64_t out_len, uint8_t *k_out, uint64_t k_out_len, castulfrisa_signed *counts);
+    uint8_t *exchange, uint64_t exchange_len, const uint8_t *room, uint64_t room_len, const uint8_t *signature, uint64_t signature_len,
+    uint8_t *out, uint64_t out_len, uint8_t *k_out, uint64_t k_out_len, castulfrisa_signed *counts);
 
 /* ---- what goes into the keys, seen as it goes by */
 
@@ -37,8 +37,8 @@ uint64_t __wrap_castulfrisa_take_secret(
     uint64_t kem, const uint8_t *k_pq, uint64_t k_pq_len, const uint8_t *ks, uint64_t ks_len, const uint8_t *s, uint64_t s_len, uint64_t *count,
     uint8_t h[CASTULFRISA_H_SIZE])
 {
-    uint64_t number = __real_castulfrisa_take_secret(exchange, exchange_len, room, room_len, given, x_count, x, x_len, kem, k_pq, k_pq_len, ks, ks_len,
-                                                     s, s_len, count, h);
+    uint64_t number = __real_castulfrisa_take_secret(exchange, exchange_len, room, room_len, given, x_count, x, x_len, kem, k_pq, k_pq_len, ks,
+                                                     ks_len, s, s_len, count, h);
     memcpy(seen_h, h, sizeof seen_h);
     return number;
 }
@@ -53,10 +53,11 @@ uint64_t __wrap_castulfrisa_verdict(
 }
 
 uint64_t __wrap_castulfrisa_sign(
-    uint8_t *exchange, uint64_t exchange_len, const uint8_t *room, uint64_t room_len, const uint8_t *signature, uint64_t signature_len, uint8_t *out,
-    uint64_t out_len, uint8_t *k_out, uint64_t k_out_len, castulfrisa_signed *counts)
+    uint8_t *exchange, uint64_t exchange_len, const uint8_t *room, uint64_t room_len, const uint8_t *signature, uint64_t signature_len,
+    uint8_t *out, uint64_t out_len, uint8_t *k_out, uint64_t k_out_len, castulfrisa_signed *counts)
 {
-    uint64_t number = __real_castulfrisa_sign(exchange, exchange_len, room, room_len, signature, signature_len, out, out_len, k_out, k_out_len, counts);
+    uint64_t number = __real_castulfrisa_sign(exchange, exchange_len, room, room_len, signature, signature_len, out, out_len, k_out, k_out_len,
+                                              counts);
     if (number == CASTULFRISA_OK) see_k(k_out, counts->k);
     return number;
 }
@@ -101,8 +102,10 @@ uint64_t __wrap_castulfrisa_derive(
         || castulfrisa_method_sizes(told.method, &sizes) != CASTULFRISA_OK || seen_k_len < 5) return CASTULFRISA_NOT_DUE;
     if (length > 128 || key_len < length) return CASTULFRISA_BAD_INPUT;
 
-    if (how[0] >= 'A' && how[0] <= 'F')
-        return __real_castulfrisa_derive(exchange, exchange_len, letter == (uint64_t)how[0] ? ((letter - 'A') ^ 1) + 'A' : letter, length, key, key_len);
+    if (how[0] >= 'A' && how[0] <= 'F') {
+        if (letter == (uint64_t)how[0]) letter = ((letter - 'A') ^ 1) + 'A';
+        return __real_castulfrisa_derive(exchange, exchange_len, letter, length, key, key_len);
+    }
     if (strcmp(how, "right") == 0) return derive_from((part){seen_k, seen_k_len}, sizes.digest_len, letter, length, key);
     if (strcmp(how, "no-length") == 0) return derive_from((part){seen_k + 4, seen_k_len - 4}, sizes.digest_len, letter, length, key);
     if (strcmp(how, "lead-zero") != 0) return CASTULFRISA_NOT_DUE;
