@@ -59,6 +59,9 @@ dock: lib needs
 SAN = -fsanitize=address,undefined -fno-sanitize-recover=all -g
 HEADER = tests/header_test.c tests/header_steps.c tests/header_32.c
 LAZY = -Wl,-z,lazy -DCASTULFRISA_STACK=8192
+# dock with keys that are wrong, for the live test alone
+WRAPPED = castulfrisa_derive castulfrisa_take_secret castulfrisa_verdict castulfrisa_sign
+WRONG_KEYS = tests/live/wrong_keys.c $(WRAPPED:%=-Wl,--wrap=%)
 c-host: bench dock
 	@mkdir -p build/host
 	gcc -std=c11 $(WARN) $(HEADER) $(LIB) -o build/host/header_c
@@ -71,6 +74,7 @@ c-host: bench dock
 	gcc -std=c99 $(WARN) $(SAN) host/example.c $(LIB) -lcrypto -o build/host/example_san
 	gcc -std=c11 $(WARN) $(SAN) host/bench.c $(LIB) -o build/host/bench_san
 	gcc -std=c11 $(WARN) $(SAN) host/dock/*.c $(LIB) -lcrypto -o build/host/dock_san
+	gcc -std=c11 $(WARN) host/dock/*.c $(WRONG_KEYS) $(LIB) -lcrypto -o build/host/dock_wrong
 	gcc -std=c11 $(WARN) $(HEADER) $(SMALL) -o build/host/header_small
 	gcc -std=c11 $(WARN) -O0 -Wl,-z,now tests/stack_test.c $(SMALL) -o build/host/stack_small_0
 	gcc -std=c11 $(WARN) -Wl,-z,now tests/stack_test.c $(SMALL) -o build/host/stack_small_2
@@ -124,7 +128,7 @@ differ-test: rust-host
 	$(RUST_SMALL)/differ --seed $(SEED) --lists 100000 --rounds 30000 --hashes 30000
 
 live-test: c-host
-	python3 tests/live/live.py --dock build/dock --dock-asan build/host/dock_san
+	python3 tests/live/live.py --dock build/dock --dock-asan build/host/dock_san --dock-wrong build/host/dock_wrong
 
 # Methods 7 to 9 live, on demand: Debian 12's libcrypto has no ML-KEM, so trixie's is fetched from Debian's archive, with its OpenSSH and PuTTY, and libssh
 # of forky, and unpacked into build/; nothing is installed. What is made with their libraries runs with their C library too.

@@ -1,5 +1,6 @@
-/* dock: one SSH key exchange over a socket, as client or as server. The core (castulfrisa.h) reads and writes the messages, builds the hash
-   input and hashes it; libcrypto does curves, KEMs and signatures; here are the sockets, packets and files around them. */
+/* dock: one SSH key exchange over a socket, as client or as server, and the first service behind it. The core (castulfrisa.h) reads and writes
+   the messages, builds the hash input, hashes it and derives the keys; libcrypto does curves, KEMs, signatures, ciphers and MACs; here are the
+   sockets, packets and files around them. */
 #ifndef DOCK_H
 #define DOCK_H
 
@@ -20,11 +21,20 @@ enum message {
     MESSAGE_IGNORE = 2,
     MESSAGE_UNIMPLEMENTED = 3,
     MESSAGE_DEBUG = 4,
+    MESSAGE_SERVICE_REQUEST = 5,
+    MESSAGE_SERVICE_ACCEPT = 6,
     MESSAGE_KEXINIT = 20,
     MESSAGE_NEWKEYS = 21
 };
 
-#define KEY_EXCHANGE_FAILED 3 /* the reason of every DISCONNECT that goes out */
+/* RFC 4250, 4.2.2: the reasons of a DISCONNECT that goes out */
+enum reason {
+    REASON_PROTOCOL_ERROR = 2,      /* a sealed packet that is whole and not due */
+    REASON_KEY_EXCHANGE_FAILED = 3, /* all faults up to the peer's NEWKEYS */
+    REASON_MAC_ERROR = 5,           /* a sealed packet that was changed, or lost its place */
+    REASON_NO_SERVICE = 7,
+    REASON_BY_APPLICATION = 11 /* no fault: dock goes no further */
+};
 
 /* ---- report.c: what is printed */
 
@@ -37,19 +47,76 @@ void show(bool on, const char *direction, const char *what, long length, int num
 /* "name hex", a line of standard output. */
 void print_hex(const char *name, const uint8_t *bytes, size_t len);
 
-/* ---- link.c: one connection, its version lines and its packets in the clear */
+/* ---- seal.c: packets behind NEWKEYS, encrypted and with a MAC, each direction by itself */
 
-#define PACKET_MOST 35000 /* RFC 4253, 6.1 */
+#define SEAL_BLOCK 16    /* of AES, and so the length of its first counter */
+#define SEAL_KEY_MOST 32 /* of a cipher */
+#define SEAL_TAG_MOST 64 /* of a MAC, and of its key, which is as long */
+
+struct cipher {
+    const char *name;
+    const char *algorithm; /* libcrypto's name for it */
+    size_t key_len;
+};
+
+struct mac {
+    const char *name;
+    const char *digest;
+    size_t tag_len;
+    bool over_ciphertext; /* encrypt-then-MAC: the packet's length stays in the clear, and is under the MAC */
+};
+
+struct seal_keys { uint8_t iv[SEAL_BLOCK], cipher[SEAL_KEY_MOST], mac[SEAL_TAG_MOST]; };
+
+struct seal {
+    const struct cipher *cipher; /* as chosen */
+    const struct mac *mac;
+    EVP_CIPHER_CTX *crypt; /* these two keep the keys; NULL until there are any */
+    EVP_MAC_CTX *tag;
+    bool on;           /* NEWKEYS has gone by: what follows is sealed */
+    uint32_t sequence; /* number of the next packet, sealed or not */
+};
+
+const struct cipher *cipher_named(span name);
+const struct mac *mac_named(span name);
+
+/* Takes the keys, which stay the caller's to wipe; the seal is not on yet. */
+bool seal_take_keys(struct seal *s, const struct seal_keys *keys);
+
+/* Behind NEWKEYS. In a strict key exchange packets are counted anew. */
+void seal_begin(struct seal *s, bool strict);
+
+/* What a packet's length counts towards the block: with the four bytes that it stands in where those are encrypted or nothing is. */
+size_t seal_aligned(const struct seal *s, size_t length);
+size_t seal_block(const struct seal *s);
+size_t seal_tag_len(const struct seal *s);
+
+/* How many bytes must be there before a packet's length can be read, and that reading's decryption, once for each packet. */
+size_t seal_ahead(const struct seal *s);
+bool seal_show_length(struct seal *s, uint8_t *packet);
+
+/* A packet of len bytes, in place, with its tag behind it. Opening: false, and nothing of it is to be looked at, unless the MAC holds. */
+bool seal_close_packet(struct seal *s, uint8_t *packet, size_t len);
+bool seal_open_packet(struct seal *s, uint8_t *packet, size_t len);
+
+/* libcrypto wipes the keys. */
+void seal_end(struct seal *s);
+
+/* ---- link.c: one connection, its version lines and its packets */
+
+#define PACKET_MOST 35000 /* RFC 4253, 6.1: all of it, with the MAC */
 
 struct link {
     int fd;
     int timeout; /* seconds that a connection may take */
     long long deadline;
     bool show;
-    bool sealed; /* own NEWKEYS went out: nothing more may go out in the clear */
+    bool strict; /* both sides named strict key exchange: up to NEWKEYS no packet is passed over, and it begins the count anew */
+    bool silent; /* DISCONNECT went out: nothing more may */
+    struct seal coming, going;
     uint8_t in[PACKET_MOST];
     size_t begin, end; /* what has come in and is not used up */
-    size_t packet;     /* length of the packet that the last payload is a part of */
+    size_t packet;     /* length of the packet that the last payload is a part of, its tag included */
 };
 
 bool link_connect(struct link *l, const char *host, const char *port, int timeout);
@@ -69,7 +136,10 @@ bool link_send(struct link *l, const uint8_t *payload, size_t len);
 /* The payload of the next packet that is not IGNORE, DEBUG or UNIMPLEMENTED, until the next call; DISCONNECT is a failure. */
 bool link_receive(struct link *l, span *payload);
 
-/* Like trouble, and tells the peer by DISCONNECT, after which nothing more goes out. */
+/* DISCONNECT, after which nothing more goes out; sealed behind own NEWKEYS, as all else. */
+void link_disconnect(struct link *l, enum reason reason, const char *text);
+
+/* Like trouble, and tells the peer by DISCONNECT. */
 bool peer_fault(struct link *l, const char *format, ...);
 
 void link_close(struct link *l);
@@ -122,6 +192,7 @@ struct host_key {
 
 const struct scheme *scheme_named(const uint8_t *name, size_t len);
 
+span text_span(const char *text);
 bool span_is(span s, const char *text);
 
 span part_of(span whole, castulfrisa_part p);
@@ -157,14 +228,24 @@ enum known known_host(FILE *file, const char *host, const char *port, const char
 /* "SHA256:" and the base64 of the digest, as ssh-keygen -l prints it. */
 bool fingerprint(span host_key, char out[FINGERPRINT]);
 
+/* ---- service.c: the first service behind NEWKEYS, and a DISCONNECT behind it */
+
+bool ask_service(struct link *l);
+bool grant_service(struct link *l);
+
 /* ---- kex.c: the exchange */
 
 #define HOST_KEYS_MOST 8
 #define X_BEGINS_MOST 2
 
+enum direction { TO_SERVER, TO_CLIENT };
+
 struct settings {
     const char *methods;   /* name-lists for the own KEXINIT */
     const char *host_keys; /* a server's come from its keys */
+    span ciphers[2], macs[2]; /* by direction */
+    bool not_strict;          /* strict key exchange is not offered */
+    bool no_service;          /* NEWKEYS is the end */
     bool show;
     int timeout;
 

@@ -22,6 +22,8 @@ const struct scheme schemes[] = {
 };
 const size_t scheme_count = sizeof schemes / sizeof schemes[0];
 
+span text_span(const char *text) { return (span){(const uint8_t *)text, strlen(text)}; }
+
 bool span_is(span s, const char *text) { return s.len == strlen(text) && memcmp(s.at, text, s.len) == 0; }
 
 const struct scheme *scheme_named(const uint8_t *name, size_t len)

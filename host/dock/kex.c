@@ -1,12 +1,11 @@
-/* The exchange, as client and as server: versions, KEXINIT, the core's steps in their order, NEWKEYS (RFC 4253, 7 and 8). */
+/* The exchange, as client and as server: versions, KEXINIT, the core's steps in their order, the keys, NEWKEYS (RFC 4253, 7 and 8). */
 #include "dock.h"
 #include <openssl/rand.h>
 #include <string.h>
 
 #define OWN_VERSION "SSH-2.0-castulfrisa_dock"
-#define CIPHERS "chacha20-poly1305@openssh.com,aes256-gcm@openssh.com,aes256-ctr"
-#define MACS "hmac-sha2-256-etm@openssh.com,hmac-sha2-256"
-#define COMPRESSIONS "none"
+#define STRICT_CLIENT "kex-strict-c-v00@openssh.com" /* OpenSSH's PROTOCOL, 1.10: no methods, but they stand in the list of methods */
+#define STRICT_SERVER "kex-strict-s-v00@openssh.com"
 #define NO_MESSAGE UINT64_MAX /* in place of a message's length */
 #define DRAWS_MOST 1000000L /* for an X that begins as asked: one in 65,536 does, but for bytes that a method never has */
 
@@ -34,11 +33,15 @@ struct kex {
     uint64_t kem; /* enum castulfrisa_kem */
     uint8_t x[CASTULFRISA_X_MOST], k_pq[CASTULFRISA_K_PQ_SIZE], k[CASTULFRISA_K], h[CASTULFRISA_H_SIZE];
     size_t x_count, k_pq_len;
+    uint8_t x_begins[2]; /* what is printed of X */
 };
 
 #define EXCHANGE(k) (k)->exchange, sizeof (k)->exchange, (k)->room, sizeof (k)->room
 
-static span text(const char *s) { return (span){(const uint8_t *)s, strlen(s)}; }
+static struct seal *seal_towards(struct kex *k, enum direction way)
+{
+    return (way == TO_SERVER) == (k->role == CASTULFRISA_CLIENT) ? &k->link.going : &k->link.coming;
+}
 
 /* ---- the core's numbers */
 
@@ -65,7 +68,7 @@ static uint64_t shown(struct kex *k, const char *direction, const char *what, ui
 static bool exchange_versions(struct kex *k)
 {
     size_t len;
-    span own = text(OWN_VERSION);
+    span own = text_span(OWN_VERSION);
     bool client = k->role == CASTULFRISA_CLIENT;
     if (!link_send_version(&k->link, OWN_VERSION) || !link_read_version(&k->link, client, k->peer_v, &len)) return false;
     span peer = {k->peer_v, len};
@@ -76,15 +79,21 @@ static bool exchange_versions(struct kex *k)
 
 static bool send_kexinit(struct kex *k, span *own)
 {
-    static const char *const same[] = {CIPHERS, CIPHERS, MACS, MACS, COMPRESSIONS, COMPRESSIONS, "", ""};
+    const struct settings *set = k->set;
     uint8_t cookie[CASTULFRISA_COOKIE], joined[CASTULFRISA_KEXINIT_MOST];
-    castulfrisa_bytes lists[CASTULFRISA_LISTS];
+    char methods[CASTULFRISA_KEXINIT_MOST];
     castulfrisa_proposed told;
     uint64_t ends[CASTULFRISA_LISTS];
-    for (size_t i = 0; i < CASTULFRISA_LISTS; i++) {
-        span list = text(i == 0 ? k->set->methods : i == 1 ? k->set->host_keys : same[i - 2]);
-        lists[i] = (castulfrisa_bytes){list.at, list.len};
-    }
+
+    int methods_len = snprintf(methods, sizeof methods, "%s%s", set->methods,
+                               set->not_strict ? "" : k->role == CASTULFRISA_CLIENT ? "," STRICT_CLIENT : "," STRICT_SERVER);
+    if (methods_len < 0 || (size_t)methods_len >= sizeof methods) return trouble("own methods are too long");
+    const span none = text_span("none"), empty = text_span("");
+    const span own_lists[] = {text_span(methods), text_span(set->host_keys), set->ciphers[TO_SERVER], set->ciphers[TO_CLIENT],
+                              set->macs[TO_SERVER], set->macs[TO_CLIENT], none, none, empty, empty};
+    castulfrisa_bytes lists[CASTULFRISA_LISTS];
+    for (size_t i = 0; i < CASTULFRISA_LISTS; i++) lists[i] = (castulfrisa_bytes){own_lists[i].at, own_lists[i].len};
+
     uint64_t len = castulfrisa_join(lists, joined, sizeof joined, ends);
     if (len > sizeof joined) return trouble("own lists of %lu bytes are too long", (unsigned long)len);
     if (RAND_bytes(cookie, sizeof cookie) != 1) return trouble("no random bytes");
@@ -92,6 +101,60 @@ static bool send_kexinit(struct kex *k, span *own)
     *own = (span){k->own_i, (size_t)told.count};
     show(k->link.show, "->", "KEXINIT", (long)told.count, (int)number, -1);
     return accepted(k, "own KEXINIT", number) && link_send(&k->link, own->at, own->len);
+}
+
+/* ---- the choices that are not the core's */
+
+static bool has_name(span kexinit, uint64_t list, span name)
+{
+    castulfrisa_opened opened;
+    castulfrisa_part part;
+    if (castulfrisa_open_list(kexinit.at, kexinit.len, list, &opened) != CASTULFRISA_OK) return false;
+    while (castulfrisa_next_name(kexinit.at, kexinit.len, &opened.cursor, &part) == CASTULFRISA_OK && part.len > 0)
+        if (part.len == name.len && memcmp(kexinit.at + part.start, name.at, name.len) == 0) return true;
+    return false;
+}
+
+/* RFC 4253, 7.1: the first of the client's names that the server has too. It is one of our own then. */
+static bool common_name(struct kex *k, const char *what, uint64_t list, span *name)
+{
+    castulfrisa_opened opened;
+    castulfrisa_part part;
+    if (!accepted(k, what, castulfrisa_open_list(k->ic.at, k->ic.len, list, &opened))) return false;
+    do {
+        if (!accepted(k, what, castulfrisa_next_name(k->ic.at, k->ic.len, &opened.cursor, &part))) return false;
+        *name = part_of(k->ic, part);
+        if (part.len == 0) return peer_fault(&k->link, "KEXINIT refused (the two sides have no %s in common)", what);
+    } while (!has_name(k->is, list, *name));
+    return true;
+}
+
+/* Cipher, MAC and no compression, for each direction. */
+static bool choose_seals(struct kex *k)
+{
+    static const uint64_t lists[][3] = {
+        [TO_SERVER] = {CASTULFRISA_LIST_CIPHER_C2S, CASTULFRISA_LIST_MAC_C2S, CASTULFRISA_LIST_COMPRESSION_C2S},
+        [TO_CLIENT] = {CASTULFRISA_LIST_CIPHER_S2C, CASTULFRISA_LIST_MAC_S2C, CASTULFRISA_LIST_COMPRESSION_S2C},
+    };
+    for (int way = TO_SERVER; way <= TO_CLIENT; way++) {
+        struct seal *s = seal_towards(k, way);
+        span cipher, mac, compression;
+        if (!common_name(k, "cipher", lists[way][0], &cipher) || !common_name(k, "MAC", lists[way][1], &mac)
+            || !common_name(k, "compression", lists[way][2], &compression)) return false;
+        s->cipher = cipher_named(cipher);
+        s->mac = mac_named(mac);
+        if (s->cipher == NULL || s->mac == NULL || !span_is(compression, "none")) return trouble("the choice is none of our names");
+    }
+    return true;
+}
+
+/* Strict where both sides name it. Then the peer's KEXINIT must have been its first packet. */
+static bool choose_strict(struct kex *k)
+{
+    bool client = k->role == CASTULFRISA_CLIENT;
+    span theirs = text_span(client ? STRICT_SERVER : STRICT_CLIENT);
+    k->link.strict = !k->set->not_strict && has_name(client ? k->is : k->ic, CASTULFRISA_LIST_KEX, theirs);
+    return !k->link.strict || k->link.coming.sequence == 1 || peer_fault(&k->link, "KEXINIT is not the first packet of a strict key exchange");
 }
 
 /* KEXINIT both ways, the choice, and the exchange begun. */
@@ -115,6 +178,7 @@ static bool negotiate(struct kex *k)
     k->scheme = scheme_named(k->ic.at + choice.host_key.start, (size_t)choice.host_key.len);
     k->drop = (client ? choice.ignore_server : choice.ignore_client) == 1;
     if (!makes_method(k->method) || k->scheme == NULL) return trouble("the choice is none of our names");
+    if (!choose_seals(k) || !choose_strict(k)) return false;
     if (!accepted(k, "sizes", castulfrisa_method_sizes(k->method, &k->sizes))) return false;
 
     number = castulfrisa_start(k->exchange, sizeof k->exchange, k->role, k->method, k->vc.at, k->vc.len, k->vs.at, k->vs.len, k->ic.at,
@@ -134,22 +198,68 @@ static bool receive_message(struct kex *k, span *payload)
 
 /* ---- the end of both roles */
 
+/* First counter, cipher's key and MAC's key of one direction. */
+static uint64_t derive_towards(const struct kex *k, enum direction way, const struct seal *s, struct seal_keys *keys)
+{
+    const uint64_t letter = way == TO_SERVER ? 'A' : 'B';
+    uint64_t number = castulfrisa_derive(k->exchange, sizeof k->exchange, letter, sizeof keys->iv, keys->iv, sizeof keys->iv);
+    if (number == CASTULFRISA_OK)
+        number = castulfrisa_derive(k->exchange, sizeof k->exchange, letter + 2, s->cipher->key_len, keys->cipher, sizeof keys->cipher);
+    if (number == CASTULFRISA_OK)
+        number = castulfrisa_derive(k->exchange, sizeof k->exchange, letter + 4, s->mac->tag_len, keys->mac, sizeof keys->mac);
+    castulfrisa_wipe_stack();
+    return number;
+}
+
+/* The six keys, from the core to where packets are sealed, and nowhere else. */
+static bool derive_keys(struct kex *k)
+{
+    bool taken = true;
+    for (int way = TO_SERVER; taken && way <= TO_CLIENT; way++) {
+        struct seal *s = seal_towards(k, way);
+        struct seal_keys keys;
+        uint64_t number = derive_towards(k, way, s, &keys);
+        show(k->link.show, "", way == TO_SERVER ? "keys to server" : "keys to client", -1, (int)number, -1);
+        taken = accepted(k, "keys", number) && (seal_take_keys(s, &keys) || trouble("libcrypto does not take the keys"));
+        castulfrisa_wipe((uint8_t *)&keys, sizeof keys);
+    }
+    return taken;
+}
+
+/* What the keys were made of, as soon as they are there; H stays, which is no secret. */
+static void forget_secrets(struct kex *k)
+{
+    EVP_PKEY **const ephemeral[] = {&k->own, &k->peer, &k->own_kem};
+    for (size_t i = 0; i < sizeof ephemeral / sizeof ephemeral[0]; i++) {
+        EVP_PKEY_free(*ephemeral[i]);
+        *ephemeral[i] = NULL;
+    }
+    memcpy(k->x_begins, k->x, sizeof k->x_begins);
+    castulfrisa_wipe(k->exchange, sizeof k->exchange);
+    castulfrisa_wipe(k->room, sizeof k->room);
+    castulfrisa_wipe(k->x, sizeof k->x);
+    castulfrisa_wipe(k->k_pq, sizeof k->k_pq);
+    castulfrisa_wipe(k->k, sizeof k->k);
+}
+
 static bool exchange_newkeys(struct kex *k)
 {
     static const uint8_t newkeys[] = {MESSAGE_NEWKEYS};
+    struct link *l = &k->link;
     span payload;
-    show(k->link.show, "->", "NEWKEYS", sizeof newkeys, -1, -1);
-    if (!link_send(&k->link, newkeys, sizeof newkeys)) return false;
-    k->link.sealed = true;
-    if (!link_receive(&k->link, &payload)) return false;
+    show(l->show, "->", "NEWKEYS", sizeof newkeys, -1, -1);
+    if (!link_send(l, newkeys, sizeof newkeys)) return false;
+    seal_begin(&l->going, l->strict);
+    if (!link_receive(l, &payload)) return false;
     if (payload.len == 0 || payload.at[0] != MESSAGE_NEWKEYS || payload.len != sizeof newkeys)
-        return peer_fault(&k->link, "message %u of %lu bytes where NEWKEYS is due", payload.len > 0 ? (unsigned)payload.at[0] : 0,
+        return peer_fault(l, "message %u of %lu bytes where NEWKEYS is due", payload.len > 0 ? (unsigned)payload.at[0] : 0,
                           (unsigned long)payload.len);
-    show(k->link.show, "<-", "NEWKEYS", (long)payload.len, -1, -1);
+    seal_begin(&l->coming, l->strict);
+    show(l->show, "<-", "NEWKEYS", (long)payload.len, -1, -1);
     return true;
 }
 
-static bool print_results(const struct kex *k, const char *print, enum known known)
+static bool print_results(struct kex *k, const char *print, enum known known)
 {
     uint8_t name[CASTULFRISA_METHOD_NAME_MOST];
     uint64_t name_len;
@@ -158,9 +268,23 @@ static bool print_results(const struct kex *k, const char *print, enum known kno
     printf("host key %s %s\n", k->scheme->name, print);
     if (k->role == CASTULFRISA_CLIENT) printf("known %s\n", known == KNOWN_YES ? "yes" : "not asked");
     print_hex("H", k->h, (size_t)k->sizes.digest_len);
-    print_hex("X begins", k->x, 2);
+    print_hex("X begins", k->x_begins, sizeof k->x_begins);
+    for (int way = TO_SERVER; way <= TO_CLIENT; way++) {
+        const struct seal *s = seal_towards(k, way);
+        printf("%s %s %s\n", way == TO_SERVER ? "to server" : "to client", s->cipher->name, s->mac->name);
+    }
+    printf("strict %s\n", k->link.strict ? "yes" : "no");
     puts("NEWKEYS sent and received");
     return fflush(stdout) == 0 || trouble("standard output cannot be written");
+}
+
+/* From the exchange that is complete to the first service. */
+static bool finish(struct kex *k, const char *print, enum known known)
+{
+    bool keyed = derive_keys(k);
+    forget_secrets(k);
+    if (!keyed || !exchange_newkeys(k) || !print_results(k, print, known)) return false;
+    return k->set->no_service || (k->role == CASTULFRISA_CLIENT ? ask_service(&k->link) : grant_service(&k->link));
 }
 
 /* ---- client */
@@ -247,7 +371,7 @@ static bool client(struct kex *k)
     if (!take_secret(k, given, none, none)) return false;
 
     if (!fingerprint(host_key, print)) return trouble("no digest for the fingerprint");
-    return give_verdict(k, host_key, signature, print, &known) && exchange_newkeys(k) && print_results(k, print, known);
+    return give_verdict(k, host_key, signature, print, &known) && finish(k, print, known);
 }
 
 /* ---- server */
@@ -323,7 +447,7 @@ static bool server(struct kex *k)
     if (!fingerprint(host_key, print)) return trouble("no digest for the fingerprint");
 
     return read_init(k, &given) && take_secret(k, given, host_key, (span){k->c, k->c_len}) && send_reply(k, key)
-        && exchange_newkeys(k) && print_results(k, print, KNOWN_NOT_ASKED);
+        && finish(k, print, KNOWN_NOT_ASKED);
 }
 
 /* ---- one connection of either role, wiped behind it */

@@ -1,4 +1,4 @@
-/* One connection: its socket, version lines (RFC 4253, 4.2) and packets in the clear (RFC 4253, 6). */
+/* One connection: its socket, version lines (RFC 4253, 4.2) and packets (RFC 4253, 6), in the clear up to NEWKEYS and sealed behind it. */
 #include "dock.h"
 #include <errno.h>
 #include <fcntl.h>
@@ -61,11 +61,13 @@ static const char *send_bytes(struct link *l, const uint8_t *bytes, size_t len)
 
 static const char *send_packet(struct link *l, const uint8_t *payload, size_t len)
 {
-    uint8_t packet[4 + 1 + CASTULFRISA_REPLY + 12];
-    size_t padding = 8 - (5 + len) % 8;
-    if (padding < 4) padding += 8;
+    uint8_t packet[4 + 1 + CASTULFRISA_REPLY + 3 + SEAL_BLOCK + SEAL_TAG_MOST];
+    size_t block = seal_block(&l->going), tag = seal_tag_len(&l->going);
+    size_t padding = block - seal_aligned(&l->going, 1 + len) % block;
+    if (padding < 4) padding += block;
     size_t length = 1 + len + padding;
-    if (4 + length > sizeof packet) return "packet too long to send";
+    if (4 + length + tag > sizeof packet) return "packet too long to send";
+    if (l->going.sequence == UINT32_MAX) return "too many packets under one key";
 
     packet[0] = (uint8_t)(length >> 24);
     packet[1] = (uint8_t)(length >> 16);
@@ -74,7 +76,8 @@ static const char *send_packet(struct link *l, const uint8_t *payload, size_t le
     packet[4] = (uint8_t)padding;
     memcpy(packet + 5, payload, len);
     if (RAND_bytes(packet + 5 + len, (int)padding) != 1) return "no random bytes";
-    return send_bytes(l, packet, 4 + length);
+    if (!seal_close_packet(&l->going, packet, 4 + length)) return "libcrypto does not encrypt";
+    return send_bytes(l, packet, 4 + length + tag);
 }
 
 /* ---- sockets */
@@ -171,6 +174,8 @@ void link_close(struct link *l)
         }
         close(l->fd);
     }
+    seal_end(&l->coming);
+    seal_end(&l->going);
     OPENSSL_cleanse(l, sizeof *l);
     l->fd = -1;
 }
@@ -200,21 +205,36 @@ static uint32_t number_at(const uint8_t *at)
     return (uint32_t)at[0] << 24 | (uint32_t)at[1] << 16 | (uint32_t)at[2] << 8 | at[3];
 }
 
-/* One packet, whatever its message. */
+/* A packet that somebody changed on its way: the peer is told no more than that, wherever it was noticed. */
+static bool packet_fault(struct link *l, const char *what, unsigned long number)
+{
+    if (!l->coming.on) return peer_fault(l, what, number);
+    trouble(what, number);
+    link_disconnect(l, REASON_MAC_ERROR, "packet corrupt");
+    return false;
+}
+
+/* One packet, whatever its message. Behind NEWKEYS its length is anybody's word until the MAC holds, so that its bounds come first. */
 static bool receive_packet(struct link *l, span *payload)
 {
+    struct seal *s = &l->coming;
+    unsigned long sequence = s->sequence;
     l->begin += l->packet;
     l->packet = 0;
-    if (!need(l, 4)) return false;
+    if (sequence == UINT32_MAX) return peer_fault(l, "too many packets under one key");
+    if (!need(l, seal_ahead(s))) return false;
+    if (!seal_show_length(s, l->in + l->begin)) return trouble("libcrypto does not decrypt");
     uint32_t length = number_at(l->in + l->begin);
-    if (length < 12 || length > PACKET_MOST - 4 || length % 8 != 4)
-        return peer_fault(l, "packet length %lu not allowed", (unsigned long)length);
-    if (!need(l, 4 + (size_t)length)) return false;
+    size_t aligned = seal_aligned(s, length), tag = seal_tag_len(s);
+    if (length > PACKET_MOST - 4 - tag || aligned < 16 || aligned % seal_block(s) != 0)
+        return packet_fault(l, "packet length %lu not allowed", length);
+    if (!need(l, 4 + (size_t)length + tag)) return false;
+    if (!seal_open_packet(s, l->in + l->begin, 4 + (size_t)length)) return packet_fault(l, "the MAC of packet %lu does not hold", sequence);
     uint8_t padding = l->in[l->begin + 4];
     if (padding < 4 || padding > length - 1) return peer_fault(l, "padding length %u not allowed", (unsigned)padding);
     payload->at = l->in + l->begin + 5;
     payload->len = length - 1 - padding;
-    l->packet = 4 + (size_t)length;
+    l->packet = 4 + (size_t)length + tag;
     return true;
 }
 
@@ -239,6 +259,7 @@ bool link_receive(struct link *l, span *payload)
         case MESSAGE_DISCONNECT: show(l->show, "<-", "DISCONNECT", len, -1, -1); return disconnected(*payload);
         default: return true;
         }
+        if (l->strict && !l->coming.on) return peer_fault(l, "message %u within a strict key exchange", (unsigned)message);
     }
     return false;
 }
@@ -293,21 +314,33 @@ bool link_send_version(struct link *l, const char *v)
 
 bool link_send(struct link *l, const uint8_t *payload, size_t len)
 {
+    if (l->silent) return trouble("sending behind DISCONNECT");
     const char *failure = send_packet(l, payload, len);
     return failure == NULL || trouble("sending: %s", failure);
 }
 
-static size_t put_string(uint8_t *out, size_t out_len, const uint8_t *body, size_t len)
+static size_t put_string(uint8_t *out, size_t out_len, const char *body)
 {
     uint64_t count;
-    return castulfrisa_write_string(out, out_len, body, len, &count) == CASTULFRISA_OK ? (size_t)count : 0;
+    span s = text_span(body);
+    return castulfrisa_write_string(out, out_len, s.at, s.len, &count) == CASTULFRISA_OK ? (size_t)count : 0;
+}
+
+void link_disconnect(struct link *l, enum reason reason, const char *text)
+{
+    uint8_t payload[128] = {MESSAGE_DISCONNECT, 0, 0, 0, (uint8_t)reason};
+    size_t len = 5;
+    if (l->silent) return;
+    l->silent = true;
+    l->deadline = now_ms() + LAST_WORDS_MS;
+    len += put_string(payload + len, sizeof payload - len, text);
+    len += put_string(payload + len, sizeof payload - len, "");
+    show(l->show, "->", "DISCONNECT", (long)len, -1, -1);
+    (void)send_packet(l, payload, len);
 }
 
 bool peer_fault(struct link *l, const char *format, ...)
 {
-    static const uint8_t text[] = "key exchange failed";
-    uint8_t payload[64] = {MESSAGE_DISCONNECT, 0, 0, 0, KEY_EXCHANGE_FAILED};
-    size_t len = 5;
     char line[400];
     va_list arguments;
 
@@ -315,14 +348,7 @@ bool peer_fault(struct link *l, const char *format, ...)
     vsnprintf(line, sizeof line, format, arguments);
     va_end(arguments);
     trouble("%s", line);
-
-    /* After own NEWKEYS the peer would take it for an encrypted packet. */
-    if (l->sealed) return false;
-    l->sealed = true;
-    l->deadline = now_ms() + LAST_WORDS_MS;
-    len += put_string(payload + len, sizeof payload - len, text, sizeof text - 1);
-    len += put_string(payload + len, sizeof payload - len, NULL, 0);
-    show(l->show, "->", "DISCONNECT", (long)len, -1, -1);
-    (void)send_packet(l, payload, len);
+    if (l->coming.on) link_disconnect(l, REASON_PROTOCOL_ERROR, "protocol error");
+    else link_disconnect(l, REASON_KEY_EXCHANGE_FAILED, "key exchange failed");
     return false;
 }

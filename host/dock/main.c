@@ -10,27 +10,35 @@
 #define METHODS \
     "curve25519-sha256,curve25519-sha256@libssh.org,ecdh-sha2-nistp256,ecdh-sha2-nistp384,ecdh-sha2-nistp521,curve448-sha512"
 #define HYBRIDS "mlkem768x25519-sha256,mlkem768nistp256-sha256,mlkem1024nistp384-sha384"
+#define CIPHERS "aes256-ctr,aes128-ctr"
+#define MACS "hmac-sha2-256-etm@openssh.com,hmac-sha2-512-etm@openssh.com,hmac-sha2-256,hmac-sha2-512"
 #define TIMEOUT 20
 
 enum { DONE = 0, FAILED = 1, USAGE = 2 };
 
 static const char help[] =
-    "usage: dock client HOST PORT [--known-hosts FILE] [--methods NAME,..] [--host-keys NAME,..] [--show] [--timeout SECONDS]\n"
-    "       dock server PORT --host-key FILE [--host-key FILE ..] [--methods NAME,..] [--x-begins HEX] [--count N] [--show]\n"
-    "                   [--timeout SECONDS]\n"
+    "usage: dock client HOST PORT [--known-hosts FILE] [--host-keys NAME,..] [options]\n"
+    "       dock server PORT --host-key FILE [--host-key FILE ..] [--x-begins HEX] [--count N] [options]\n"
     "\n"
-    "Makes one SSH key exchange, up to NEWKEYS, and prints method, host key, H and the first two bytes of X. A failure is one line\n"
-    "on standard error and exit 1; a fault of the peer is answered with SSH_DISCONNECT, reason 3. Exit 2: the command line.\n"
+    "Makes one SSH key exchange, and behind NEWKEYS, encrypted, asks for the service ssh-userauth or accepts it, which is the end. Prints\n"
+    "method, host key, H, the first two bytes of X, cipher and MAC of each direction, whether the exchange was strict, and the service.\n"
+    "A failure is one line on standard error and exit 1; a fault of the peer is answered with SSH_DISCONNECT, reason 3, or 2, 5 or 7\n"
+    "behind NEWKEYS. Exit 2: the command line.\n"
     "\n"
     "  --known-hosts FILE  refuse a host key that FILE does not have for HOST ('host type base64' or '[host]:port type base64')\n"
-    "  --methods NAME,..   key exchange methods in order of preference: curve25519-sha256, curve25519-sha256@libssh.org,\n"
-    "                      curve448-sha512, ecdh-sha2-nistp256, ecdh-sha2-nistp384, ecdh-sha2-nistp521\n"
-    "%s"
     "  --host-keys NAME,.. host key names in order of preference: ssh-ed25519, ecdsa-sha2-nistp256, ecdsa-sha2-nistp384,\n"
     "                      ecdsa-sha2-nistp521, rsa-sha2-512, rsa-sha2-256\n"
     "  --host-key FILE     a private key, in PEM or OpenSSH form, without a passphrase\n"
     "  --x-begins HEX      for tests: draw the ephemeral key until X begins with these 1 or 2 bytes\n"
     "  --count N           connections to serve, one after the other (1); exit 0 if every exchange was completed\n"
+    "options:\n"
+    "  --methods NAME,..   key exchange methods in order of preference: curve25519-sha256, curve25519-sha256@libssh.org,\n"
+    "                      curve448-sha512, ecdh-sha2-nistp256, ecdh-sha2-nistp384, ecdh-sha2-nistp521\n"
+    "%s"
+    "  --ciphers NAME,..   of aes256-ctr and aes128-ctr, in order of preference; NAME,../NAME,.. is to the server and to the client\n"
+    "  --macs NAME,..      of hmac-sha2-256, hmac-sha2-512 and these with -etm@openssh.com behind them, likewise\n"
+    "  --no-strict         do not offer strict key exchange\n"
+    "  --no-service        end at NEWKEYS\n"
     "  --show              print each message and step, the core's number for it, and how far the room is filled\n"
     "  --timeout SECONDS   what one connection may take (20)\n"
     "PORT 0 of a server is any free port; 'listening on PORT' is printed first.\n";
@@ -69,22 +77,33 @@ static bool whole_number(const char *text, long least, long most, long *value)
     return text[0] >= '0' && text[0] <= '9' && *end == 0 && errno == 0 && *value >= least && *value <= most;
 }
 
-static bool is_own_method(const char *name, size_t len)
-{
-    return makes_method(castulfrisa_method_number((const uint8_t *)name, len));
-}
+static bool is_own_method(span name) { return makes_method(castulfrisa_method_number(name.at, name.len)); }
 
-static bool is_own_scheme(const char *name, size_t len) { return scheme_named((const uint8_t *)name, len) != NULL; }
+static bool is_own_scheme(span name) { return scheme_named(name.at, name.len) != NULL; }
+
+static bool is_own_cipher(span name) { return cipher_named(name) != NULL; }
+
+static bool is_own_mac(span name) { return mac_named(name) != NULL; }
 
 /* Whether every name of a comma-separated list is one of ours. */
-static bool all_names(const char *list, bool (*own)(const char *, size_t))
+static bool all_names(span list, bool (*own)(span))
 {
     for (;;) {
-        size_t len = strcspn(list, ",");
-        if (!own(list, len)) return false;
-        if (list[len] == 0) return true;
-        list += len + 1;
+        const uint8_t *comma = memchr(list.at, ',', list.len);
+        size_t len = comma == NULL ? list.len : (size_t)(comma - list.at);
+        if (!own((span){list.at, len})) return false;
+        if (comma == NULL) return true;
+        list = (span){comma + 1, list.len - len - 1};
     }
+}
+
+/* One list for both directions, or one for each with a slash in between. */
+static bool read_directions(const char *text, bool (*own)(span), span lists[2])
+{
+    const char *slash = strchr(text, '/');
+    lists[TO_SERVER] = slash == NULL ? text_span(text) : (span){(const uint8_t *)text, (size_t)(slash - text)};
+    lists[TO_CLIENT] = text_span(slash == NULL ? text : slash + 1);
+    return all_names(lists[TO_SERVER], own) && all_names(lists[TO_CLIENT], own);
 }
 
 static int digit(char c)
@@ -117,19 +136,33 @@ static int misused(const char *what, const char *value)
 
 static bool is_option(const char *given, const char *name) { return strcmp(given, name) == 0; }
 
-/* One option and, but for --show, its value. */
+/* An option without a value. */
+static bool take_flag(struct settings *set, const char *name)
+{
+    if (is_option(name, "--show")) set->show = true;
+    else if (is_option(name, "--no-strict")) set->not_strict = true;
+    else if (is_option(name, "--no-service")) set->no_service = true;
+    else return false;
+    return true;
+}
+
+/* One option with its value. */
 static int take_option(struct command *c, bool client, const char *name, const char *value)
 {
     struct settings *set = &c->set;
     long number;
     if (is_option(name, "--methods")) {
-        if (!all_names(value, is_own_method)) return misused("no list of methods that are made here", value);
+        if (!all_names(text_span(value), is_own_method)) return misused("no list of methods that are made here", value);
         set->methods = value;
+    } else if (is_option(name, "--ciphers")) {
+        if (!read_directions(value, is_own_cipher, set->ciphers)) return misused("no list of ciphers that are made here", value);
+    } else if (is_option(name, "--macs")) {
+        if (!read_directions(value, is_own_mac, set->macs)) return misused("no list of MACs that are made here", value);
     } else if (is_option(name, "--timeout")) {
         if (!whole_number(value, 1, 86400, &number)) return misused("no number of seconds", value);
         set->timeout = (int)number;
     } else if (client && is_option(name, "--host-keys")) {
-        if (!all_names(value, is_own_scheme)) return misused("no list of host key names that are verified here", value);
+        if (!all_names(text_span(value), is_own_scheme)) return misused("no list of host key names that are verified here", value);
         set->host_keys = value;
     } else if (client && is_option(name, "--known-hosts")) {
         if (set->known_hosts != NULL) return misused("--known-hosts given twice", NULL);
@@ -151,10 +184,7 @@ static int take_option(struct command *c, bool client, const char *name, const c
 static int take_options(struct command *c, bool client, char **arguments)
 {
     for (; *arguments != NULL; arguments++) {
-        if (is_option(*arguments, "--show")) {
-            c->set.show = true;
-            continue;
-        }
+        if (take_flag(&c->set, *arguments)) continue;
         if (strncmp(*arguments, "--", 2) != 0) return misused("one argument too many", *arguments);
         if (arguments[1] == NULL) return misused("no value or no such option", *arguments);
         int result = take_option(c, client, arguments[0], arguments[1]);
@@ -230,6 +260,8 @@ int main(int count, char **arguments)
     for (int i = 1; i < count; i++)
         if (is_option(arguments[i], "--help")) return print_help();
     c.set.methods = has_hybrids() ? HYBRIDS "," METHODS : METHODS;
+    (void)read_directions(CIPHERS, is_own_cipher, c.set.ciphers);
+    (void)read_directions(MACS, is_own_mac, c.set.macs);
 
     if (is_option(arguments[1], "client")) result = run_client(&c, arguments + 2);
     else if (is_option(arguments[1], "server")) result = run_server(&c, arguments + 2);

@@ -22,7 +22,7 @@ bool trouble(const char *format, ...)
 void show(bool on, const char *direction, const char *what, long length, int number, long room)
 {
     if (!on) return;
-    printf("%-2s %-13s", direction, what);
+    printf("%-2s %-15s", direction, what);
     if (length >= 0) printf(" %5ld bytes", length);
     else if (number >= 0) printf("            ");
     if (number >= 0) printf("  number %d", number);

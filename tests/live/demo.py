@@ -13,7 +13,8 @@ import tempfile
 sys.dont_write_bytecode = True
 from programs import METHODS, Dock, Failure, Programs, end_on_signals, need, results
 
-WORDS = "direction, message, its length, the core's number for the step, the room filled so far"
+WORDS = ("direction, message, its length, the core's number for the step, the room filled so far.\nBehind NEWKEYS packets are encrypted and have a MAC, "
+         "with keys that the core derived: their lengths are those of what was decrypted")
 
 
 def told(title, out):
@@ -33,15 +34,17 @@ def demo(programs, dock):
                                   "--host-keys", "ssh-ed25519", "--show")
         need(code == 0, err.strip())
         results(out)
-        told(f"dock as client, {version} as server, {METHODS[method]}", out)
+        need("<- SERVICE_ACCEPT" in out, "no SERVICE_ACCEPT")
+        told(f"dock as client, {version} as server, {METHODS[method]}: SERVICE_ACCEPT is its first packet with our keys", out)
 
     process, port = dock.serve("--host-key", programs.key("ssh-ed25519"), "--methods", METHODS[1], "--show")
     known = programs.write("known", f"[127.0.0.1]:{port} {programs.public('ssh-ed25519')}\n")
-    programs.ssh(port, 1, "ssh-ed25519", known)
+    said = programs.ssh(port, 1, "ssh-ed25519", known)[2]
     code, out, err = dock.end(process)
     need(code == 0, err.strip())
     results(out)
-    told(f"dock as server, {version} as client, {METHODS[1]}: its NEWKEYS says that it accepts our signature", out)
+    told(f"dock as server, {version} as client, {METHODS[1]}: its NEWKEYS says that it accepts our signature, its last words that it reads our packets",
+         out + said)
 
     port = programs.sshd()
     other = programs.write("other", f"[127.0.0.1]:{port} ssh-ed25519 {'A' * 43}=\n")

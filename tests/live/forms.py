@@ -101,11 +101,11 @@ def all_forms(programs, dock):
         for host_key, forms in groups:
             for holds, name, how in forms:
                 try:
-                    p, code, out, err = against_client(dock, play(host_key, how), Turn("forms", 0), listener)
+                    p, code, out, err = against_client(dock, play(host_key, how), Turn("forms", 0), listener, "--no-service")
                     if holds:
                         need(code == 0 and f"H {p.h.hex()}\n" in out and "NEWKEYS sent and received" in out, "refused:", err.strip())
                     else:
-                        judge(p.must, code, out, err, p.seen)
+                        judge(p.must, code, out, err, p)
                 except (Failure, OSError) as e:
                     raise Failure(f"{host_key.decode()}, {name}: {e}") from None
                 count += 1

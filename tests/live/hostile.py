@@ -1,19 +1,21 @@
 """Hostile peers: each kind is a play of one connection, with the end that dock must come to.
 
-A play sets `p.must` before the bytes that decide: FAULT (dock ends with DISCONNECT, reason 3, and nothing after it) or QUIET (no
-DISCONNECT: the peer went away, or the bytes are no SSH, or own NEWKEYS is out), and, where the bytes fix it, the core's number or a
-part of dock's line. Sessions of a kind are counted, and lists of cases are gone through in turn."""
+A play sets `p.must` before the bytes that decide: FAULT (dock ends with DISCONNECT, reason 3, and nothing after it), another reason of
+a DISCONNECT, or QUIET (no DISCONNECT: the peer went away, or the bytes are no SSH), and, where the bytes fix it, the core's number or a
+part of dock's line. Behind dock's NEWKEYS its DISCONNECT must open with the keys that the peer derived. Sessions of a kind are counted,
+and lists of cases are gone through in turn."""
 import os
 import random
 import socket
 import struct
 import time
 
-from peer import (BASE_U, DEBUG, DISCONNECT, IGNORE, INIT, KEXINIT, NEWKEYS, PASSED_OVER, REPLY, UNIMPLEMENTED, Closed, Ed25519, Peer,
-                  disconnect, exchange_hash, kexinit, packet, payloads, string, x25519)
+from peer import (ACCEPT, BASE_U, DEBUG, DISCONNECT, IGNORE, INIT, KEXINIT, NEWKEYS, PASSED_OVER, REPLY, REQUEST, SEALS, UNIMPLEMENTED, Closed,
+                  Ed25519, Peer, Unsealed, disconnect, ed25519_holds, exchange_hash, kexinit, packet, service, string, take_string, x25519)
 from programs import METHODS, Failure, need
 
 FAULT, QUIET = "fault", "quiet"
+STRICT = b",kex-strict-%s-v00@openssh.com"
 OWN = b"SSH-2.0-hostile"
 KEX = b"curve25519-sha256,curve25519-sha256@libssh.org,ecdh-sha2-nistp256"
 SIGNER = Ed25519(bytes(range(32)))
@@ -102,6 +104,22 @@ def refused_kexinit(p, rng):
     p.read()
 
 
+def nothing_in_common(p, rng):
+    """In one list of one direction, and all else is good."""
+    place, way = rng.turn // 2 % 3, rng.turn % 2
+    seals, compressions = [list(names) for names in SEALS], [b"none", b"none"]
+    if place == 2:
+        compressions[way] = b"zlib,zlib@openssh.com"
+    else:
+        seals[way][place] = (b"aes192-ctr,aes256-cbc", b"hmac-sha1,umac-64@openssh.com")[place]
+    p.send(OWN + b"\r\n")
+    p.must = FAULT, f"no {('cipher', 'MAC', 'compression')[place]} in common"
+    p.send(packet(kexinit(KEX, b"ssh-ed25519", seals=seals, compressions=compressions)))
+    p.version()
+    p.read()
+    p.read()
+
+
 def garbage_version(p, rng):
     data, said = rng.case([
         (b"SSH-1.5-old\r\n", "not 2.0"), (b"SSH-2.0\n", "not 2.0"), (b"SSH-2.0-" + b"v" * 246 + b"\n", "too long"),
@@ -117,12 +135,14 @@ def garbage_version(p, rng):
 # ---- a hostile server, against dock's client
 
 class Server(Peer):
+    serves, strict_name, due = True, STRICT % b"s", service(ACCEPT)
+
     def greet(self, own_kexinit=None, kex=KEX):
         """Versions and KEXINIT both ways, then dock's INIT."""
         self.send(OWN + b"\r\n")
         self.v_c = self.version()
         self.i_s = own_kexinit or kexinit(kex, b"ssh-ed25519")
-        self.send(packet(self.i_s))
+        self.send_packets(packet(self.i_s))
         self.i_c = self.read()
         init = self.read()
         self.c = init[5:]
@@ -133,6 +153,14 @@ class Server(Peer):
         x = x25519(secret, self.c)
         self.h, self.x = exchange_hash(self.v_c, OWN, self.i_c, self.i_s, blob, self.c, s, x), x
         return bytes([REPLY]) + string(blob) + string(s) + string((sign or signer.sign)(self.h))
+
+    def answer(self):
+        """All that is right, up to dock's NEWKEYS."""
+        self.send_packets(packet(self.reply()))
+        need(self.read() == bytes([NEWKEYS]), "no NEWKEYS")
+
+    def asked(self):
+        need(self.read() == service(REQUEST), "no SERVICE_REQUEST")
 
 
 def changed_reply(change, number=None):
@@ -277,13 +305,16 @@ def server_disconnects(p, rng):
     p.send(packet(payload))
 
 
-def no_newkeys_of_server(p, rng):
-    """The exchange is accepted and dock's NEWKEYS is out: nothing more in the clear."""
+def no_newkeys(p, rng):
+    """The exchange is accepted and dock's NEWKEYS is out: its DISCONNECT is sealed, while this side's packets are not."""
     p.greet()
-    p.must = QUIET, None
-    p.send(packet(p.reply()))
-    p.read()
-    p.send(rng.case([b"", packet(b""), packet(bytes([NEWKEYS, 0])), packet(p.i_s), packet(bytes([99])), b"\xff" * 40]))
+    p.answer()
+    p.seal(False)
+    data, p.must = rng.case([
+        (b"", (QUIET, "closed")), (packet(b""), (FAULT, "where NEWKEYS is due")), (packet(bytes([NEWKEYS, 0])), (FAULT, "where NEWKEYS is due")),
+        (packet(kexinit(KEX, b"ssh-ed25519")), (FAULT, "where NEWKEYS is due")), (packet(bytes([99])), (FAULT, "where NEWKEYS is due")),
+        (packet(disconnect(2, b"no")), (QUIET, "reason 2")), (b"\xff" * 40, (FAULT, "packet length"))])
+    p.send(data)
 
 
 SERVERS = [
@@ -297,19 +328,39 @@ SERVERS = [
     (15, "KEXINIT refused", refused_kexinit),
     (18, "packet length", bad_packet_of_server(send_bad_length)), (10, "padding", bad_packet_of_server(send_bad_padding)),
     (18, "early close", server_closes), (22, "version line", garbage_version), (20, "words, then another message", words_then_wrong),
-    (20, "DISCONNECT", server_disconnects), (6, "no NEWKEYS", no_newkeys_of_server),
+    (20, "DISCONNECT", server_disconnects), (7, "no NEWKEYS", no_newkeys), (6, "nothing in common", nothing_in_common),
 ]
 
 
 # ---- a hostile client, against dock's server
 
 class Client(Peer):
-    def greet(self, kex=KEX, own_kexinit=None):
+    serves, strict_name, due = False, STRICT % b"c", service(REQUEST)
+
+    def greet(self, own_kexinit=None, kex=KEX):
         self.send(OWN + b"\r\n")
         self.v_s = self.version()
         self.i_c = own_kexinit or kexinit(kex, b"ssh-ed25519")
-        self.send(packet(self.i_c))
+        self.send_packets(packet(self.i_c))
         self.i_s = self.read()
+
+    def take(self, reply, v_c=OWN):
+        """REPLY as it came: X, H, and whether the signature holds."""
+        k_s, rest = take_string(reply[1:])
+        s, rest = take_string(rest)
+        signature, rest = take_string(rest)
+        self.x = x25519(SECRET, s)
+        self.h = exchange_hash(v_c, self.v_s, self.i_c, self.i_s, k_s, PUBLIC, s, self.x)
+        self.holds = rest == b"" and ed25519_holds(k_s, signature, self.h)
+
+    def answer(self):
+        """All that is right, up to dock's NEWKEYS."""
+        self.send_packets(packet(init()))
+        self.take(self.read())
+        need(self.holds and self.read() == bytes([NEWKEYS]), "no NEWKEYS")
+
+    def asked(self):
+        pass  # nothing is: a server answers
 
 
 def init(c=PUBLIC):
@@ -331,7 +382,7 @@ def changed_init(change, number=None):
 
 def init_of(c, number, kex=KEX):
     def play(p, rng):
-        p.greet(kex)
+        p.greet(kex=kex)
         p.must = FAULT, number
         p.send(packet(init(c(rng))))
     return play
@@ -368,14 +419,6 @@ def client_closes(p, rng):
         p.send(cut(rng, packet(init())))
 
 
-def no_newkeys_of_client(p, rng):
-    p.greet()
-    p.must = QUIET, None
-    p.send(packet(init()))
-    p.read()
-    p.send(rng.case([b"", packet(b""), packet(bytes([NEWKEYS, 0])), packet(init()), packet(disconnect(2, b"no")), b"\xff" * 40]))
-
-
 NISTP256 = b"ecdh-sha2-nistp256"
 CLIENTS = [
     (25, "INIT cut", changed_init(cut, 12)), (10, "INIT longer", changed_init(longer, 13)),
@@ -390,25 +433,28 @@ CLIENTS = [
     (8, "KEXINIT cut", changed_kexinit_of_client(cut)), (16, "KEXINIT flipped", changed_kexinit_of_client(flipped)),
     (15, "KEXINIT refused", refused_kexinit),
     (18, "packet length", bad_packet_of_client(send_bad_length)), (10, "padding", bad_packet_of_client(send_bad_padding)),
-    (10, "early close", client_closes), (22, "version line", garbage_version), (6, "no NEWKEYS", no_newkeys_of_client),
+    (10, "early close", client_closes), (22, "version line", garbage_version), (7, "no NEWKEYS", no_newkeys),
+    (6, "nothing in common", nothing_in_common),
 ]
 
 
 # ---- one session
 
-def judge(must, code, out, err, seen):
+def judge(must, code, out, err, p):
     what, said = must
     need(code == 1, f"exit {code} and not 1")
     need(len(err.splitlines()) == 1 and err.startswith("dock: ") and err.endswith("\n"), f"standard error is not one line: {err!r}")
-    need("NEWKEYS sent" not in out, "it says that the exchange was completed")
-    sent = payloads(seen)
+    need(("NEWKEYS sent" in out) == p.past, f"it says that the exchange was {'not ' if p.past else ''}completed")
+    need("service" not in out, "it says that there was a service")
+    sent = p.payloads()
     need(sent is not None, "what it sent is not whole packets")
     last = sent[-1] if sent else b""
     need(all(b[:1] != bytes([DISCONNECT]) for b in sent[:-1]), "something follows its DISCONNECT")
-    if what == FAULT:
-        need(last[:5] == disconnect(3)[:5], f"it does not end with DISCONNECT, reason 3 ({err.strip()})")
-    else:
+    if what == QUIET:
         need(last[:1] != bytes([DISCONNECT]), f"a DISCONNECT that nobody can read ({err.strip()})")
+    else:
+        reason = 3 if what == FAULT else what
+        need(last[:5] == disconnect(reason)[:5], f"it does not end with DISCONNECT, reason {reason} ({err.strip()})")
     said = f"(number {said}: " if isinstance(said, int) else said or ""
     need(said in err, f"'{said}' expected: {err.strip()}")
 
@@ -419,6 +465,8 @@ def connected(play, p, rng):
         play(p, rng)
     except Closed:
         pass
+    except Unsealed as e:
+        raise Failure(f"what it sent does not open: {e}") from None
     p.finish()
 
 
@@ -456,9 +504,9 @@ def slow_peers(dock, host_key):
     with socket.create_server(("127.0.0.1", 0)) as listener:
         listener.settimeout(60)
         p, code, out, err = against_client(dock, silent, Turn("slow", 0), listener, "--timeout", 1)
-        judge(p.must, code, out, err, p.seen)
+        judge(p.must, code, out, err, p)
         p, code, out, err = against_server(dock, trickling, Turn("slow", 0), "--host-key", host_key, "--timeout", 1)
-        judge(p.must, code, out, err, p.seen)
+        judge(p.must, code, out, err, p)
     need(time.monotonic() - began < 8, "slow peers hold it longer than its timeout")
     return 2
 
@@ -493,25 +541,25 @@ def changed_replies(dock, seed, sshd_port, times=12, pairs=PAIRS):
     with socket.create_server(("127.0.0.1", 0)) as listener:
         listener.settimeout(60)
         for method, host_key in pairs:
-            options = "--methods", METHODS[method], "--host-keys", host_key
+            options = "--methods", METHODS[method], "--host-keys", host_key, "--no-service"  # nothing is handed on behind NEWKEYS
             try:
                 p, code, out, err = against_client(dock, between(sshd_port, lambda rng, b: b), Turn(seed, 0), listener, *options)
                 need(code == 0 and "NEWKEYS sent and received" in out, "as it is, it is refused:", err.strip())
                 for i in range(times):
                     change = between(sshd_port, lambda rng, b: b[:1] + flipped(rng, b[1:], 1))
                     p, code, out, err = against_client(dock, change, Turn(f"{seed} {method} {host_key}", i), listener, *options)
-                    judge(p.must, code, out, err, p.seen)
+                    judge(p.must, code, out, err, p)
             except (Failure, OSError) as e:
                 raise Failure(f"REPLY of sshd changed, method {method}, {host_key}: {e}") from None
     return len(pairs) * (times + 1)
 
 
-def all_sessions(dock, seed, host_key):
+def all_sessions(dock, seed, host_key, servers=SERVERS, clients=CLIENTS):
     """Every session of both sides; how many there were."""
     count = 0
     with socket.create_server(("127.0.0.1", 0), backlog=16) as listener:
         listener.settimeout(60)
-        for side, kinds in (("server", SERVERS), ("client", CLIENTS)):
+        for side, kinds in (("server", servers), ("client", clients)):
             for times, name, play in kinds:
                 for i in range(times):
                     rng = Turn(f"{seed} {side} {name}", i)
@@ -520,7 +568,7 @@ def all_sessions(dock, seed, host_key):
                             p, code, out, err = against_client(dock, play, rng, listener)
                         else:
                             p, code, out, err = against_server(dock, play, rng, "--host-key", host_key)
-                        judge(p.must, code, out, err, p.seen)
+                        judge(p.must, code, out, err, p)
                     except (Failure, OSError) as e:
                         raise Failure(f"hostile {side}, {name}, session {i}, {os.path.basename(dock.path)}: {e}") from None
                     count += 1

@@ -22,6 +22,7 @@ from programs import METHODS, Dock, Failure, Programs, Unpacked, end_on_signals,
 HYBRIDS = (7, 8, 9)
 ED25519 = "ssh-ed25519"
 TIMES = 10  # of dock with dock, in each method
+LONG_KEYS = "--macs", "hmac-sha2-512/hmac-sha2-512-etm@openssh.com"  # of 64 bytes, which take a second hash in each of methods 7 to 9
 
 
 def command_line(programs, dock):
@@ -37,26 +38,27 @@ def with_sshd(programs, dock, port):
     for host_key in host_keys:
         answer = dock.run("client", "127.0.0.1", port, "--known-hosts", known, "--methods", METHODS[9], "--host-keys", host_key)
         need(completed(answer, 9, host_key)["known"] == "yes", "known")
-    completed(dock.run("client", "127.0.0.1", port, "--host-keys", ED25519), 9, ED25519)
+    completed(dock.run("client", "127.0.0.1", port, "--host-keys", ED25519, *LONG_KEYS), 9, ED25519)
     changed = changed_replies(dock, "hybrids", port, times=24, pairs=[(9, ED25519)])
     return f"{len(host_keys) + 1} exchanges, {changed - 1} changed replies refused"
 
 
 def with_ssh(programs, dock):
-    for host_key in (ED25519, "ecdsa-sha2-nistp256", "rsa-sha2-512"):
-        serve_ssh(programs, dock, 9, host_key, programs.key(host_key))
+    for host_key, options in ((ED25519, LONG_KEYS), ("ecdsa-sha2-nistp256", ()), ("rsa-sha2-512", ())):
+        serve_ssh(programs, dock, 9, host_key, programs.key(host_key), *options)
     return "3 exchanges"
 
 
 def with_plink(programs, dock, suite):
-    """plink takes what a server offers of its methods: the server has one. It goes no further than NEWKEYS, and says so."""
+    """plink takes what a server offers of its methods: the server has one. It goes no further than the first service, and says so."""
     plink = [*suite.command("usr/bin/plink"), "-ssh", "-batch", "-noagent", "-hostkey", programs.fingerprint(ED25519), "-l", "nobody"]
     env = dict(os.environ, HOME=programs.folder)
     for method in HYBRIDS:
-        process, port = dock.serve("--host-key", programs.key(ED25519), "--methods", METHODS[method])
+        process, port = dock.serve("--host-key", programs.key(ED25519), "--methods", METHODS[method], *LONG_KEYS)
         code, out, err = programs.run([*plink, "-P", str(port), "127.0.0.1", "true"], env=env)
         answer = dock.end(process)
         need(answer[0] == 0, f"method {method}: {answer[2].strip()} (plink: {err.strip()})")
+        need("the service is accepted" in err, f"method {method}: plink does not read the DISCONNECT behind SERVICE_ACCEPT: {err.strip()}")
         completed(answer, method, ED25519)
     return "an exchange in each of methods 7 to 9"
 
@@ -68,13 +70,13 @@ def with_libssh(programs, dock, peer):
                                  stderr=subprocess.PIPE)
         need(process.stdout.readline() == b"listening\n", "libssh does not listen")
         known = programs.write("known_libssh", f"[127.0.0.1]:{port} {programs.public(ED25519)}\n")
-        found = completed(dock.run("client", "127.0.0.1", port, "--known-hosts", known, "--methods", METHODS[method]), method, ED25519)
+        found = completed(dock.run("client", "127.0.0.1", port, "--known-hosts", known, "--methods", METHODS[method], *LONG_KEYS), method, ED25519)
         need(found["known"] == "yes", "known", found["known"])
         err = process.communicate(timeout=60)[1].decode("ascii", "replace")
         programs.finished(process)
         need(process.returncode == 0, f"method {method}, libssh as server: {err.strip()}")
 
-        process, port = dock.serve("--host-key", programs.key(ED25519), "--methods", METHODS[method])
+        process, port = dock.serve("--host-key", programs.key(ED25519), "--methods", METHODS[method], *LONG_KEYS)
         code, out, err = programs.run([*peer, "client", str(port), METHODS[method]])
         answer = dock.end(process)
         need(answer[0] == 0 and code == 0, f"method {method}, libssh as client: {answer[2].strip()} {err.strip()}")
@@ -118,7 +120,7 @@ def hostile_clients(programs, dock):
         p, code, out, err = against_server(dock, play, Turn("hybrids", 0), "--host-key", programs.key(ED25519))
         try:
             need(p.must == (FAULT, number), "no INIT was due")
-            judge(p.must, code, out, err, p.seen)
+            judge(p.must, code, out, err, p)
         except Failure as e:
             raise Failure(f"method {method}, C {c[:8].hex()}.. of {len(c)} bytes: {e}") from None
     return f"{len(cases)} values of C refused"

@@ -1,10 +1,11 @@
 #!/usr/bin/env python3
 """dock against OpenSSH and against hostile peers, over the loopback.
 
-usage: live.py --dock PROGRAM [--dock-asan PROGRAM] [--seed TEXT]
+usage: live.py --dock PROGRAM [--dock-asan PROGRAM] [--dock-wrong PROGRAM] [--seed TEXT]
 
 Starts sshd and ssh itself, with keys and files in a temporary folder. Prints a line for each part; exits 1 with one line at the first
-failure. --dock-asan: the hostile peers once more, against a build with sanitizers. Needs OpenSSH's client and server.
+failure. --dock-asan: the hostile peers meet this one, a build with sanitizers. --dock-wrong: a build with wrong_keys.c, whose keys must fail.
+Needs OpenSSH's client and server.
 """
 import argparse
 import base64
@@ -18,16 +19,17 @@ import time
 
 sys.dont_write_bytecode = True
 from forms import all_forms
-from hostile import (FAULT, OWN, PUBLIC, SECRET, SIGNER, Turn, against_client, against_server, all_sessions, changed_replies, judge,
-                     slow_peers)
-from peer import (DEBUG, IGNORE, INIT, NEWKEYS, REPLY, UNIMPLEMENTED, ed25519_holds, exchange_hash, kexinit, packet, string, take_string,
-                  x25519)
+from hostile import FAULT, OWN, PUBLIC, SIGNER, STRICT, Turn, against_client, against_server, all_sessions, changed_replies, judge, slow_peers
+from peer import DEBUG, IGNORE, INIT, NEWKEYS, REPLY, SEALS, UNIMPLEMENTED, kexinit, packet, string
 from programs import METHODS, Dock, Failure, Programs, end_on_signals, need, results
+from sealed import CIPHERS, MACS, SEALED, longest_word, served
 
-EXTRAS_C = b",ext-info-c,kex-strict-c-v00@openssh.com"
-EXTRAS_S = b",ext-info-s,kex-strict-s-v00@openssh.com"
-WORDS = (packet(bytes([IGNORE]) + string(b"")) + packet(bytes([DEBUG, 0]) + string(b"text") + string(b""))
-         + packet(bytes([UNIMPLEMENTED]) + bytes(4)))
+EXTRAS_C, STRICT_C = b",ext-info-c", b",ext-info-c" + STRICT % b"c"
+EXTRAS_S, STRICT_S = b",ext-info-s", b",ext-info-s" + STRICT % b"s"
+WORDS = bytes([IGNORE]) + string(b""), bytes([DEBUG, 0]) + string(b"text") + string(b""), bytes([UNIMPLEMENTED]) + bytes(4)
+CLEAR_WORDS = b"".join(map(packet, WORDS))
+OPENSSH = (1, 2, 4, 5, 6)  # the methods that this ssh and sshd have too
+ED25519 = "ssh-ed25519"
 
 
 def one_line(err, *parts):
@@ -57,7 +59,9 @@ def command_line(programs, dock):
              ("server",), ("server", "0"), ("client", "h", "1", "more"), ("client", "h", "1", "--methods", "curve25519-sha256,"),
              ("client", "h", "1", "--methods", "diffie-hellman-group14-sha256"), ("client", "h", "1", "--host-keys", "ssh-dss"),
              ("client", "h", "1", "--count", "1"), ("client", "h", "1", "--timeout", "0"), ("client", "h", "1", "--timeout"),
-             ("server", "0", "--x-begins", "0"), ("server", "0", "--x-begins", "00zz"), ("server", "0", "--known-hosts", "f")]
+             ("server", "0", "--x-begins", "0"), ("server", "0", "--x-begins", "00zz"), ("server", "0", "--known-hosts", "f"),
+             ("client", "h", "1", "--ciphers", "aes192-ctr"), ("client", "h", "1", "--ciphers", ""), ("server", "0", "--ciphers", "aes128-ctr/"),
+             ("client", "h", "1", "--macs", "hmac-sha1"), ("client", "h", "1", "--macs", "hmac-sha2-256/hmac-sha2-512/hmac-sha2-512")]
     if not hybrids:
         wrong += [("client", "h", "1", "--methods", METHODS[method]) for method in (7, 8, 9)]
     for arguments in wrong:
@@ -87,16 +91,26 @@ def shown(out):
     """The lines of --show hold together: the room's filling is the sum of what went in."""
     line = {}
     for text in out.splitlines():
-        m = re.fullmatch(r"(->|<-|  ) (\w+) +(?:(\d+) bytes)?(?: +number (\d+))?(?:  room (\d+) of 14156)?", text)
+        m = re.fullmatch(r"(->|<-|  ) (\w+(?: to \w+)?) +(?:(\d+) bytes)?(?: +number (\d+))?(?:  room (\d+) of 14156)?", text)
         if m:
             line[m[1].strip() + m[2]] = [None if g is None else int(g) for g in m.groups()[2:]]
-    need(set(line) == {"->version", "<-version", "->KEXINIT", "<-KEXINIT", "start", "->INIT", "<-REPLY", "secret", "verdict", "->NEWKEYS",
-                       "<-NEWKEYS"}, "--show has other lines:", sorted(line))
+    need(set(line) == {"->version", "<-version", "->KEXINIT", "<-KEXINIT", "start", "->INIT", "<-REPLY", "secret", "verdict", "keys to server",
+                       "keys to client", "->NEWKEYS", "<-NEWKEYS", "->SERVICE_REQUEST", "<-SERVICE_ACCEPT", "->DISCONNECT"},
+         "--show has other lines:", sorted(line))
     strings = line["->version"][0] + line["<-version"][0] - 4 + line["->KEXINIT"][0] + line["<-KEXINIT"][0] + 16
     need(line["start"][1:] == [0, strings], "--show: start", line["start"])
     need(line["->INIT"] == [37, 0, strings + 36], "--show: INIT", line["->INIT"])
     need(line["<-REPLY"][1:] == [0, strings + 36 + 55 + 36], "--show: REPLY", line["<-REPLY"])
     need(line["secret"][1] == 0 and 0 < line["secret"][2] - line["<-REPLY"][2] <= 37, "--show: secret", line["secret"])
+    need(line["->SERVICE_REQUEST"] == line["<-SERVICE_ACCEPT"] == [17, None, None], "--show: service", line["<-SERVICE_ACCEPT"])
+
+
+def logged(programs, words, since=0, count=1):
+    """sshd may write a line after it has closed."""
+    until = time.monotonic() + 5
+    while (found := programs.log()[since:].count(words)) < count and time.monotonic() < until:
+        time.sleep(0.02)
+    need(found == count, f"sshd has '{words}' {found} times in its log, and not {count}")
 
 
 def as_client(programs, dock, port):
@@ -128,24 +142,24 @@ def as_client(programs, dock, port):
         code, out, err = dock.run("client", "127.0.0.1", port, *ed25519, "--known-hosts", programs.write("known", text))
         need(code == 1 and out == "", "a host key that is not known: exit", code, "for", repr(text))
         one_line(err, "(number 18: ", programs.fingerprint("ssh-ed25519"), why)
-    until = time.monotonic() + 5
-    while True:  # sshd may write a line after it has closed
-        told = programs.log().count(":3: key exchange failed")
-        if told == len(refused) or time.monotonic() > until:
-            break
-        time.sleep(0.1)
-    need(told == len(refused), "sshd was told of", told, "failed key exchanges, and not of", len(refused))
+    logged(programs, ":3: key exchange failed", count=len(refused))
     return f"{len(pairs) + 4} exchanges, {len(refused)} refused host keys"
 
 
 # ---- 2 and 3: server for ssh
 
-def serve_ssh(programs, dock, method, host_key, file, *options):
+def serve(programs, dock, method, host_key, file, *options, **of_ssh):
+    """One connection for ssh: dock's answer, and what ssh says."""
     process, port = dock.serve("--host-key", file, *options)
     known = programs.write(f"known_{port}", f"[127.0.0.1]:{port} {programs.public(host_key)}\n")
-    code, out, err = programs.ssh(port, method, host_key, known)
-    answer = dock.end(process)
+    err = programs.ssh(port, method, host_key, known, **of_ssh)[2]
+    return dock.end(process), err
+
+
+def serve_ssh(programs, dock, method, host_key, file, *options, **of_ssh):
+    answer, err = serve(programs, dock, method, host_key, file, *options, **of_ssh)
     need(answer[0] == 0, f"method {method}, {host_key}: {answer[2].strip()} (ssh: {err.strip()})")
+    need(":11: the service is accepted" in err, f"ssh does not read the DISCONNECT behind SERVICE_ACCEPT: {err.strip()}")
     found = completed(answer, method, host_key)
     need(found["host key"].split()[1] == programs.fingerprint(host_key), "fingerprint", found["host key"])
     return found
@@ -163,8 +177,14 @@ def as_server(programs, dock):
     for method, host_key in ((3, "rsa-sha2-256"), (6, "ssh-ed25519")):
         completed(dock.run("client", "127.0.0.1", port, "--methods", METHODS[method], "--host-keys", host_key), method, host_key)
     code, out, err = dock.end(process)
-    need(code == 0 and out.count("NEWKEYS sent and received") == 2, "two connections of one server:", err.strip())
-    return f"{len(cases)} exchanges with ssh, 2 with dock"
+    need(code == 0 and out.count("NEWKEYS sent and received") == 2 and out.count("service") == 2, "two connections of one server:", err.strip())
+
+    # NEWKEYS is the end where that is asked for
+    process, port = dock.serve("--host-key", programs.key(ED25519), "--no-service")
+    for code, out, err in (dock.run("client", "127.0.0.1", port, "--no-service"), dock.end(process)):
+        need(code == 0 and err == "", "--no-service:", err.strip())
+        results(out, service=False)
+    return f"{len(cases)} exchanges with ssh, 3 with dock"
 
 
 BEGINNINGS = [(method, begins) for begins in ("0080", "007f", "80", "7f") for method in (1, 4)]
@@ -181,43 +201,44 @@ def x_begins(programs, dock, method, begins):
 def hostile_peers(programs, dock, seed, sshd):
     key = programs.key("ssh-ed25519")
     alone = all_sessions(dock, seed, key) + slow_peers(dock, key)
+    behind = all_sessions(dock, seed, key, SEALED, SEALED)
     forms = all_forms(programs, dock)
-    return f"{alone} sessions, {changed_replies(dock, seed, sshd)} in between sshd, {forms} forms of host key and signature"
+    return (f"{alone} sessions, {behind} behind NEWKEYS or strict, {changed_replies(dock, seed, sshd)} in between sshd, "
+            f"{forms} forms of host key and signature")
 
 
-# ---- 5: guesses and words in between, with H computed here
+# ---- 5: guesses and words in between, with H and the keys computed here
 
-def client_play(kex, host_keys, follows, guess, before=b"", version=OWN + b"\r\n"):
-    """A client that is right in the end; guess: what it sends at once behind its KEXINIT."""
+def client_play(kex, host_keys, follows, guess, before=b"", version=OWN + b"\r\n", seals=SEALS, ahead=()):
+    """A client that is right in the end; guess: what it sends at once behind its KEXINIT; ahead: what it says ahead of SERVICE_REQUEST."""
     def play(p, rng):
-        p.i_c = kexinit(kex, host_keys, follows)
-        p.send(version + before + packet(p.i_c) + guess)
+        p.i_c = kexinit(kex, host_keys, follows, seals=seals)
+        p.send(version)
+        p.send_packets(before + packet(p.i_c) + guess)
         p.v_s, p.i_s = p.version(), p.read()
         if guess != packet(bytes([INIT]) + string(PUBLIC)):
-            p.send(before + packet(bytes([INIT]) + string(PUBLIC)))
+            p.send_packets(before + packet(bytes([INIT]) + string(PUBLIC)))
         reply = p.read()
         if reply[:1] != bytes([REPLY]):
             return
-        k_s, rest = take_string(reply[1:])
-        s, rest = take_string(rest)
-        signature, rest = take_string(rest)
-        p.x = x25519(SECRET, s)
-        p.h = exchange_hash(version.rstrip(b"\r\n"), p.v_s, p.i_c, p.i_s, k_s, PUBLIC, s, p.x)
-        p.holds = rest == b"" and ed25519_holds(k_s, signature, p.h)
-        p.send(before + packet(bytes([NEWKEYS])))
+        p.take(reply, version.rstrip(b"\r\n"))
+        p.send_packets(before + packet(bytes([NEWKEYS])))
         p.read()
+        served(p, seals, p.strict_name in kex, *ahead)
     return play
 
 
-def server_play(kex, host_keys, follows, guess, before=b"", version=OWN + b"\r\n"):
+def server_play(kex, host_keys, follows, guess, before=b"", version=OWN + b"\r\n", seals=SEALS, ahead=()):
     def play(p, rng):
-        p.i_s = kexinit(kex, host_keys, follows)
-        p.send(version + before + packet(p.i_s) + guess + before)
+        p.i_s = kexinit(kex, host_keys, follows, seals=seals)
+        p.send(version)
+        p.send_packets(before + packet(p.i_s) + guess + before)
         p.v_c, p.i_c = p.version(), p.read()
         p.c = p.read()[5:]
-        p.send(before + packet(p.reply()) + before + packet(bytes([NEWKEYS])))
+        p.send_packets(before + packet(p.reply()) + before + packet(bytes([NEWKEYS])))
         p.holds = True
         p.read()
+        served(p, seals, p.strict_name in kex, *ahead)
     return play
 
 
@@ -226,43 +247,123 @@ def guesses(programs, dock):
     right = packet(bytes([INIT]) + string(PUBLIC))
     wrong = packet(bytes([INIT]) + string(bytes(31) + b"\1"))
     junk = packet(b"\xff" + bytes(50))
+    etm, plain, etm_512, plain_512 = ([(cipher, mac)] * 2 for cipher, mac in zip(CIPHERS + CIPHERS[::-1], MACS))
     clients = [
-        (2, client_play(second + b"," + first + EXTRAS_C, ed25519, True, wrong)),
-        (2, client_play(second + b"," + first + EXTRAS_C, ed25519, True, WORDS + junk, before=WORDS)),
-        (1, client_play(first + EXTRAS_C, ed25519, True, right)),
-        (1, client_play(first + b"," + second, b"rsa-sha2-256," + ed25519, True, wrong, before=WORDS)),
-        (1, client_play(b"sntrup761x25519-sha512@openssh.com," + first + EXTRAS_C, ed25519, False, b"", before=WORDS)),
-        (1, client_play(b"ext-info-c," + first, ed25519, True, wrong)),
+        (2, client_play(second + b"," + first + STRICT_C, ed25519, True, wrong, seals=etm)),
+        (2, client_play(second + b"," + first + EXTRAS_C, ed25519, True, CLEAR_WORDS + junk, before=CLEAR_WORDS, seals=plain, ahead=WORDS)),
+        (1, client_play(first + STRICT_C, ed25519, True, right, seals=etm_512, ahead=WORDS)),
+        (1, client_play(first + b"," + second, b"rsa-sha2-256," + ed25519, True, wrong, before=CLEAR_WORDS, seals=plain_512)),
+        (1, client_play(b"sntrup761x25519-sha512@openssh.com," + first + EXTRAS_C, ed25519, False, b"", before=CLEAR_WORDS, seals=etm)),
+        (1, client_play(b"ext-info-c," + first, ed25519, True, wrong, seals=etm_512, ahead=WORDS)),
         (1, client_play(first, ed25519, False, b"", version=b"SSH-1.99-" + b"v" * 244 + b"\n")),
+        (1, client_play(STRICT_C[1:] + b"," + first, ed25519, False, b"", seals=plain_512, ahead=[longest_word])),
     ]
     servers = [
-        (1, server_play(second + b"," + first + EXTRAS_S, ed25519, True, junk)),
-        (1, server_play(second + b"," + first + EXTRAS_S, ed25519, True, packet(bytes([REPLY]) + bytes(40)), before=WORDS)),
-        (1, server_play(first + EXTRAS_S, ed25519, True, b"", before=WORDS)),
-        (2, server_play(b"other," + second + EXTRAS_S, ed25519, False, b"",
+        (1, server_play(second + b"," + first + STRICT_S, ed25519, True, junk, seals=etm, ahead=[longest_word])),
+        (1, server_play(second + b"," + first + EXTRAS_S, ed25519, True, packet(bytes([REPLY]) + bytes(40)), before=CLEAR_WORDS, seals=plain)),
+        (1, server_play(first + EXTRAS_S, ed25519, True, b"", before=CLEAR_WORDS, seals=etm_512, ahead=WORDS)),
+        (1, server_play(STRICT_S[1:] + b"," + first, ed25519, False, b"", seals=plain_512, ahead=WORDS)),
+        (2, server_play(b"other," + second + STRICT_S, ed25519, False, b"",
                         version=b"welcome\r\n\nSSHx\n" + b"l" * 5000 + b"\n" + OWN + b"\n")),
     ]
     rng = Turn("guesses", 0)
     with socket.create_server(("127.0.0.1", 0)) as listener:
         listener.settimeout(60)
         for i, (method, play) in enumerate(clients + servers):
-            if i < len(clients):
-                p, *answer = against_server(dock, play, rng, "--host-key", programs.key("ssh-ed25519"))
-            else:
-                p, *answer = against_client(dock, play, rng, listener, "--host-keys", "ssh-ed25519,rsa-sha2-256")
             try:
+                if i < len(clients):
+                    p, *answer = against_server(dock, play, rng, "--host-key", programs.key("ssh-ed25519"))
+                else:
+                    p, *answer = against_client(dock, play, rng, listener, "--host-keys", "ssh-ed25519,rsa-sha2-256")
                 found = completed(answer, method, "ssh-ed25519")
                 need(found["H"] == p.h.hex(), "H", found["H"], "and not", p.h.hex())
                 need(found["X begins"] == p.x[:2].hex(), "X begins", found["X begins"])
                 need(p.holds, "the signature does not hold")
+                need(p.done, "it ended before its good-bye")
             except Failure as e:
                 raise Failure(f"guess {i}: {e}") from None
 
-        # a guess is dropped once: the next bad packet is judged; and a right guess is not dropped
-        for play in (client_play(second + b"," + first, ed25519, True, wrong + junk), client_play(first, ed25519, True, junk)):
+        # a guess is dropped once: the next bad packet is judged; a right guess is not dropped; and a strict exchange takes no words at all
+        strict = "within a strict key exchange"
+        refused = [(11, client_play(second + b"," + first, ed25519, True, wrong + junk)), (11, client_play(first, ed25519, True, junk)),
+                   (strict, client_play(second + b"," + first + STRICT_C, ed25519, True, CLEAR_WORDS + junk)),
+                   (strict, client_play(second + b"," + first + STRICT_C, ed25519, True, wrong + CLEAR_WORDS))]
+        for said, play in refused:
             p, code, out, err = against_server(dock, play, rng, "--host-key", programs.key("ssh-ed25519"))
-            judge((FAULT, 11), code, out, err, p.seen)
-    return f"{len(clients)} as server, {len(servers)} as client, 2 refused"
+            judge((FAULT, said), code, out, err, p)
+    return f"{len(clients)} as server, {len(servers)} as client, {len(refused)} refused"
+
+
+# ---- 6: behind NEWKEYS, with OpenSSH
+
+def seal_options(pair):
+    """pair: cipher and MAC to the server, and to the client."""
+    return "--ciphers", "/".join(cipher for cipher, _ in pair), "--macs", "/".join(mac for _, mac in pair)
+
+
+def chosen(found, pair, strict):
+    need((found["to server"], found["to client"]) == tuple(map(" ".join, pair)), "cipher and MAC:", found["to server"], found["to client"])
+    need(found["strict"] == ("yes" if strict else "no"), "strict", found["strict"])
+
+
+def sealed_packets(programs, dock, port):
+    """Every method, with each cipher and each MAC in each direction, counted anew at NEWKEYS and not."""
+    ciphers, macs = [name.decode() for name in CIPHERS], [name.decode() for name in MACS]
+    pairs = [((ciphers[i % 2], macs[i]), (ciphers[i // 2], macs[(i + 1) % 4])) for i in range(4)]
+    since, count, key = len(programs.log()), 0, programs.key(ED25519)
+    for i, method in enumerate(OPENSSH):
+        for j, pair in enumerate(pairs):
+            strict = (i + j) % 3 != 0
+            options = "--methods", METHODS[method], *seal_options(pair), *([] if strict else ["--no-strict"])
+            chosen(completed(dock.run("client", "127.0.0.1", port, "--host-keys", ED25519, *options), method, ED25519), pair, strict)
+            chosen(serve_ssh(programs, dock, method, ED25519, key, *options), pair, strict)
+            count += 1
+
+    # the client's order counts, also where it is not dock's
+    ciphers, macs = ",".join(ciphers[::-1]), ",".join(macs[::-1])
+    pair = (("aes128-ctr", "hmac-sha2-512"),) * 2
+    chosen(completed(dock.run("client", "127.0.0.1", port, "--host-keys", ED25519, "--ciphers", ciphers, "--macs", macs), 1, ED25519), pair, True)
+    chosen(serve_ssh(programs, dock, 1, ED25519, key, Ciphers=ciphers, MACs=macs), pair, True)
+    logged(programs, ":11: the service was accepted", since, count + 1)
+    return f"{count + 1} exchanges with sshd, {count + 1} with ssh"
+
+
+# ---- 7: wrong keys
+
+def wrong_keys(programs, dock, port):
+    """One key of the other direction's letter; K without its length, or with a zero too many. Who is to open a packet with it fails."""
+    plain, etm = [(("aes256-ctr", mac),) * 2 for mac in ("hmac-sha2-256", "hmac-sha2-512-etm@openssh.com")]
+    # A cipher's key is noticed by the MAC where that is over the plaintext.
+    cases = [(how, pair) for how in ("right", "E", "F", "no-length", "lead-zero") for pair in (plain, etm)] + [(how, plain) for how in "ABCD"]
+    count = 0
+    for how, pair in cases:
+        of_stream = pair == plain and how not in "EF"  # the length is among what does not open
+        here, there = ("packet length", "Bad packet length") if of_stream else ("the MAC of packet 0 does not hold", "Corrupted MAC on input")
+        wrong = dock.with_env(DOCK_KEYS=how)
+        for serves in (False, True):
+            since = len(programs.log())
+            if serves:
+                (code, out, err), of_ssh = serve(programs, wrong, 1, ED25519, programs.key(ED25519), *seal_options(pair))
+            else:
+                code, out, err = wrong.run("client", "127.0.0.1", port, "--methods", METHODS[1], "--host-keys", ED25519, *seal_options(pair))
+            going, coming = how in ("BDF" if serves else "ACE"), how in ("ACE" if serves else "BDF")
+            try:
+                if how == "right":
+                    completed((code, out, err), 1, ED25519)
+                elif serves and going:  # ours is the last packet: only ssh can tell
+                    need(code == 0, f"exit {code}: {err.strip()}")
+                else:
+                    need(code == 1 and "NEWKEYS sent" in out and "service" not in out, f"exit {code}: {out}")
+                    one_line(err, here if serves or coming else "the peer closed the connection")
+                peer = ":11: the service" if how == "right" else ":5: packet corrupt" if coming else there
+                if serves:
+                    need(peer in of_ssh, f"'{peer}' expected of ssh: {of_ssh.strip()}")
+                else:
+                    logged(programs, peer, since)
+            except Failure as e:
+                raise Failure(f"{how}, {pair[0][1]}, as {'server' if serves else 'client'}: {e}") from None
+            count += how != "right"
+    return f"{count} exchanges that fail"
 
 
 # ---- all
@@ -280,6 +381,7 @@ def main():
     options = argparse.ArgumentParser(description=__doc__.split("\n")[0])
     options.add_argument("--dock", required=True)
     options.add_argument("--dock-asan", help="dock under the sanitizers, which then meets the hostile peers")
+    options.add_argument("--dock-wrong", help="dock with wrong_keys.c")
     options.add_argument("--seed", default="live")
     options = options.parse_args()
     began = time.monotonic()
@@ -299,6 +401,9 @@ def main():
                     part("1, client against sshd", as_client, programs, dock, sshd)
                     part("2, server for ssh", as_server, programs, dock)
                     part("5, guessed packets", guesses, programs, dock)
+                    part("6, sealed packets", sealed_packets, programs, dock, sshd)
+                    if options.dock_wrong:
+                        part("7, wrong keys", wrong_keys, programs, Dock(programs, options.dock_wrong), sshd)
                     if options.dock_asan:
                         part("4, hostile peers, under the sanitizers", hostile_peers, programs, Dock(programs, options.dock_asan), options.seed, sshd)
                     else:

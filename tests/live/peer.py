@@ -1,12 +1,13 @@
-"""A small SSH peer for the tests, written from the RFCs and sharing nothing with the core: version lines, packets in the clear,
-KEXINIT, INIT and REPLY of the curve25519 methods, X25519 (RFC 7748), H, and host keys that sign: Ed25519 (RFC 8032), ECDSA with P-256
-(FIPS 186), RSA (RFC 8017)."""
+"""A small SSH peer for the tests, written from the RFCs and sharing nothing with the core: version lines, packets in the clear and sealed
+behind NEWKEYS, KEXINIT, INIT and REPLY of the curve25519 methods, X25519 (RFC 7748), H, the keys, AES (FIPS 197), and host keys that sign:
+Ed25519 (RFC 8032), ECDSA with P-256 (FIPS 186), RSA (RFC 8017)."""
 import base64
 import hashlib
+import hmac
 import socket
 import struct
 
-DISCONNECT, IGNORE, UNIMPLEMENTED, DEBUG, KEXINIT, NEWKEYS, INIT, REPLY = 1, 2, 3, 4, 20, 21, 30, 31
+DISCONNECT, IGNORE, UNIMPLEMENTED, DEBUG, REQUEST, ACCEPT, KEXINIT, NEWKEYS, INIT, REPLY = 1, 2, 3, 4, 5, 6, 20, 21, 30, 31
 PASSED_OVER = (IGNORE, UNIMPLEMENTED, DEBUG)
 
 
@@ -38,10 +39,18 @@ def packet(payload, padding=None):
     return struct.pack(">IB", 1 + len(payload) + padding, padding) + payload + bytes(padding)
 
 
-def kexinit(kex, host_keys, follows=False, languages=b""):
-    ciphers, macs = b"aes256-ctr,chacha20-poly1305@openssh.com", b"hmac-sha2-256"
-    lists = [kex, host_keys, ciphers, ciphers, macs, macs, b"none", b"none", b"", languages]
+SEALS = (b"aes256-ctr", b"hmac-sha2-256"), (b"aes256-ctr", b"hmac-sha2-256")  # to the server, to the client: cipher and MAC
+
+
+def kexinit(kex, host_keys, follows=False, languages=b"", seals=SEALS, compressions=(b"none", b"none")):
+    ciphers, macs = zip(*seals)
+    others = b",chacha20-poly1305@openssh.com"
+    lists = [kex, host_keys, ciphers[0] + others, ciphers[1] + others, *macs, *compressions, b"", languages]
     return bytes([KEXINIT]) + b"a test's cookie!" + b"".join(map(string, lists)) + bytes([follows]) + bytes(4)
+
+
+def service(message, name=b"ssh-userauth"):
+    return bytes([message]) + string(name)
 
 
 def disconnect(reason, text=b""):
@@ -57,6 +66,9 @@ class Peer:
 
     def __init__(self, sock, timeout=60):
         self.sock, self.seen, self.at = sock, b"", 0
+        self.sent, self.got = 0, 0  # packets
+        self.opens, self.closes = None, None  # a Seal for each direction
+        self.past, self.done = False, False  # both NEWKEYS have gone by; and all behind them
         sock.settimeout(timeout)
         sock.setsockopt(socket.IPPROTO_TCP, socket.TCP_NODELAY, 1)
 
@@ -65,6 +77,11 @@ class Peer:
             self.sock.sendall(data)
         except (BrokenPipeError, ConnectionResetError):
             raise Closed from None
+
+    def send_packets(self, data):
+        """Packets in the clear, counted."""
+        self.sent += len(payloads(b"\n" + data))
+        self.send(data)
 
     def _more(self):
         try:
@@ -81,16 +98,46 @@ class Peer:
         self.at = self.seen.index(b"\n") + 1
         return self.seen[:self.at].rstrip(b"\r\n")
 
+    def _take(self):
+        """The next packet's payload, if all of it has come."""
+        if self.opens:
+            payload, size = self.opens.open(self.seen[self.at:])
+            self.opened += [] if payload is None else [payload]
+        else:
+            head = self.seen[self.at:self.at + 4]
+            size = 4 + struct.unpack(">I", head)[0] if len(head) == 4 else 4
+            body = self.seen[self.at + 4:self.at + size]
+            payload = body[1:len(body) - body[0]] if len(head) == 4 and len(body) == size - 4 else None
+        if payload is not None:
+            self.at += size
+            self.got += 1
+        return payload
+
     def read(self):
         """The next packet's payload."""
-        while True:
-            if len(self.seen) >= self.at + 4:
-                n, = struct.unpack(">I", self.seen[self.at:self.at + 4])
-                if len(self.seen) >= self.at + 4 + n:
-                    body = self.seen[self.at + 4:self.at + 4 + n]
-                    self.at += 4 + n
-                    return body[1:len(body) - body[0]]
+        while (payload := self._take()) is None:
             self._more()
+        return payload
+
+    def seal(self, past, strict=False, seals=SEALS):
+        """dock's NEWKEYS was the last packet read, and what follows it is sealed. past: this side's went out, too."""
+        k = unsigned_mpint(self.x)
+        ways = [Seal(*names, lambda letter, length: derived(k, self.h, letter, length), letters)
+                for names, letters in zip(seals, (b"ACE", b"BDF"))]
+        self.opens, self.closes = ways if self.serves else reversed(ways)
+        self.opens.sequence, self.closes.sequence = (0, 0) if strict else (self.got, self.sent)
+        self.past, self.sealed_at, self.opened = past, self.at, []
+
+    def payloads(self):
+        """All packets that came, sealed or not; None if they are not whole or do not open."""
+        if not self.opens:
+            return payloads(self.seen)
+        try:
+            while self._take() is not None:
+                pass
+        except Unsealed:
+            return None
+        return payloads(self.seen[:self.sealed_at]) + self.opened if self.at == len(self.seen) else None
 
     def finish(self):
         """Ends this side and reads the rest."""
@@ -331,3 +378,135 @@ class Rsa:
 
 def exchange_hash(v_c, v_s, i_c, i_s, k_s, c, s, x):
     return hashlib.sha256(b"".join(map(string, (v_c, v_s, i_c, i_s, k_s, c, s))) + unsigned_mpint(x)).digest()
+
+
+# ---- the keys of the SHA-256 methods (RFC 4253, 7.2)
+
+def derived(k, h, letter, length):
+    """k: with its four length bytes. The session identifier is H of the first exchange, and there is no other."""
+    out = hashlib.sha256(k + h + letter + h).digest()
+    while len(out) < length:
+        out += hashlib.sha256(k + h + out).digest()
+    return out[:length]
+
+
+# ---- AES, to encrypt only, which is all that its counter mode takes
+
+def _double(b):
+    return b << 1 ^ (0x11b if b & 0x80 else 0)
+
+
+def _product(a, b):
+    out = 0
+    while b:
+        out, a, b = out ^ (a if b & 1 else 0), _double(a), b >> 1
+    return out
+
+
+def _substitute(b):
+    inverse = next((i for i in range(256) if _product(b, i) == 1), 0)
+    turned = inverse * 0x101
+    return inverse ^ turned >> 7 & 255 ^ turned >> 6 & 255 ^ turned >> 5 & 255 ^ turned >> 4 & 255 ^ 0x63
+
+
+S = bytes(map(_substitute, range(256)))
+DOUBLE = bytes(map(_double, range(256)))
+
+
+class Aes:
+    def __init__(self, key):
+        n = len(key) // 4
+        words, round_constant = [key[i:i + 4] for i in range(0, len(key), 4)], 1
+        for i in range(n, 4 * (n + 7)):
+            word = words[-1]
+            if i % n == 0:
+                word = bytes(S[b] for b in word[1:] + word[:1])
+                word, round_constant = bytes([word[0] ^ round_constant]) + word[1:], _double(round_constant)
+            elif n > 6 and i % n == 4:
+                word = bytes(S[b] for b in word)
+            words.append(bytes(a ^ b for a, b in zip(words[i - n], word)))
+        self.rounds = [b"".join(words[i:i + 4]) for i in range(0, len(words), 4)]
+
+    def block(self, block):
+        state = bytes(a ^ b for a, b in zip(block, self.rounds[0]))
+        for i, key in enumerate(self.rounds[1:], 2):
+            state = bytes(S[state[(j + 4 * (j % 4)) % 16]] for j in range(16))
+            if i < len(self.rounds):
+                mixed = bytearray()
+                for j in range(0, 16, 4):
+                    a, b, c, d = state[j:j + 4]
+                    every = a ^ b ^ c ^ d
+                    mixed += bytes((a ^ every ^ DOUBLE[a ^ b], b ^ every ^ DOUBLE[b ^ c], c ^ every ^ DOUBLE[c ^ d], d ^ every ^ DOUBLE[d ^ a]))
+                state = mixed
+            state = bytes(a ^ b for a, b in zip(state, key))
+        return state
+
+
+# ---- packets behind NEWKEYS (RFC 4253, 6; RFC 4344, 4; RFC 6668; OpenSSH's PROTOCOL, 1.5)
+
+class Unsealed(Exception):
+    """What the other side sent does not open."""
+
+
+class Seal:
+    """One direction, as either end sees it."""
+
+    def __init__(self, cipher, mac, derive, letters):
+        iv, key, own = (letters[i:i + 1] for i in range(3))
+        self.digest = "sha512" if b"sha2-512" in mac else "sha256"
+        self.tag_len = hashlib.new(self.digest).digest_size
+        self.etm = mac.endswith(b"-etm@openssh.com")
+        self.counter = int.from_bytes(derive(iv, 16), "big")
+        self.aes = Aes(derive(key, {b"aes128-ctr": 16, b"aes256-ctr": 32}[cipher]))
+        self.key = derive(own, self.tag_len)
+        self.sequence = 0
+
+    def crypt(self, data):
+        """From the counter as it stands, which stays."""
+        out = bytearray()
+        for i in range(0, len(data), 16):
+            stream = self.aes.block(((self.counter + i // 16) % 2**128).to_bytes(16, "big"))
+            out += bytes(a ^ b for a, b in zip(data[i:i + 16], stream))
+        return bytes(out)
+
+    def tag(self, packet):
+        return hmac.digest(self.key, struct.pack(">I", self.sequence) + packet, self.digest)
+
+    def _past(self, encrypted):
+        self.counter += encrypted // 16
+        self.sequence = (self.sequence + 1) % 2**32
+
+    def close(self, payload, padding=None, length=None):
+        """A sealed packet; padding and length: other numbers in place of the right ones."""
+        own = 16 - ((1 if self.etm else 5) + len(payload)) % 16
+        own += 16 if own < 4 else 0
+        body = bytes([own if padding is None else padding]) + payload + bytes(own)
+        head = struct.pack(">I", len(body) if length is None else length)
+        if self.etm:
+            packet = head + self.crypt(body)
+            out = packet + self.tag(packet)
+        else:
+            out = self.crypt(head + body) + self.tag(head + body)
+        self._past(len(body) if self.etm else 4 + len(body))
+        return out
+
+    def open(self, data):
+        """Payload and size of the packet at the front; None while it is not whole."""
+        ahead = 4 if self.etm else 16
+        if len(data) < ahead:
+            return None, 0
+        length, = struct.unpack(">I", (data if self.etm else self.crypt(data[:16]))[:4])
+        size = 4 + length + self.tag_len
+        if not 12 <= length <= 35000 or (length if self.etm else 4 + length) % 16:
+            raise Unsealed(f"packet length {length}")
+        if len(data) < size:
+            return None, 0
+        packet, tag = data[:4 + length], data[4 + length:size]
+        plain = packet[:4] + self.crypt(packet[4:]) if self.etm else self.crypt(packet)
+        body = plain[4:]
+        if tag != self.tag(packet if self.etm else plain):
+            raise Unsealed(f"the MAC of packet {self.sequence}")
+        if not 4 <= body[0] < length:
+            raise Unsealed(f"padding {body[0]}")
+        self._past(length if self.etm else 4 + length)
+        return body[1:len(body) - body[0]], size

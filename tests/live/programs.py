@@ -1,5 +1,6 @@
 """What the live tests start: dock, sshd and ssh, each with files in one temporary folder, and nothing left running at the end."""
 import base64
+import copy
 import os
 import re
 import shlex
@@ -198,12 +199,12 @@ class Programs:
     def ssh_version(self):
         return subprocess.run([*self.ssh_command, "-V"], capture_output=True, text=True).stderr
 
-    def ssh(self, port, method, host_key, known_hosts):
-        """ssh against a server on the loopback; it ends with an error, because the server goes no further than NEWKEYS."""
+    def ssh(self, port, method, host_key, known_hosts, **more):
+        """ssh against a server on the loopback; it ends with an error, because the first service is all there is. more: its options."""
         options = {
             "KexAlgorithms": METHODS[method], "HostKeyAlgorithms": host_key, "UserKnownHostsFile": known_hosts,
             "GlobalKnownHostsFile": "/dev/null", "StrictHostKeyChecking": "yes", "BatchMode": "yes", "IdentityAgent": "none",
-            "IdentityFile": "/dev/null", "UpdateHostKeys": "no",
+            "IdentityFile": "/dev/null", "UpdateHostKeys": "no", **more,
         }
         flags = [word for name, value in options.items() for word in ("-o", f"{name}={value}")]
         return self.run([*self.ssh_command, "-F", "/dev/null", "-p", str(port), *flags, "127.0.0.1", "true"], seconds=150)
@@ -217,6 +218,12 @@ class Dock:
         need(os.access(self.path, os.X_OK), "no program", path)
         # A finding of a sanitizer is not to look like a refusal.
         self.env = dict(os.environ, ASAN_OPTIONS="exitcode=99", UBSAN_OPTIONS="exitcode=99:print_stacktrace=1")
+
+    def with_env(self, **more):
+        """The same program with more in its environment."""
+        other = copy.copy(self)
+        other.env = dict(self.env, **more)
+        return other
 
     def run(self, *arguments, seconds=60):
         return self.programs.run([*self.command, *map(str, arguments)], seconds, env=self.env)
@@ -241,9 +248,9 @@ class Dock:
         return process.returncode, out.decode("ascii", "replace"), err.decode("ascii", "replace")
 
 
-def results(out):
-    """The lines of a completed exchange by name; fails on any line more or less. Lines of --show are left out."""
-    found, names = {}, ["method", "host key", "known", "H", "X begins", "NEWKEYS"]
+def results(out, service=True):
+    """The lines of a completed exchange, and of the service behind it, by name; fails on any line more or less. Lines of --show are left out."""
+    found, names = {}, ["method", "host key", "known", "H", "X begins", "to server", "to client", "strict", "NEWKEYS"] + ["service"] * service
     for line in out.splitlines():
         if line[:2] in ("->", "<-", "  "):
             continue
@@ -251,5 +258,6 @@ def results(out):
         need(name is not None and name not in found, "unexpected line of output:", line)
         found[name] = line[len(name) + 1:]
     need(found.get("NEWKEYS") == "sent and received", "no NEWKEYS in the output")
+    need(not service or found.get("service") == "ssh-userauth", "no service in the output")
     need(set(found) | {"known"} == set(names), "lines missing in the output")
     return found
