@@ -6,12 +6,12 @@ use mathlib.Core.Bool.{Bool, true, false, cond, _&&_, false≢true}
 use native.Mathlib.Omega.{arith}
 use lib.ListN.{length, getD, take, drop, length-drop, length-take}
 use lib.Dec.{leb, eqb, ltb}
-use borrow.Author.Tests.{leb-true, eqb-true, lt-ltb, le-ltb}
+use borrow.Author.Tests.{leb-true, eqb-true, ltb-false, lt-ltb, le-ltb}
 use Rattle.limits.specs.Limits.{kSize, hSize, keyMost, letterFirst, letterLast, exchangeSize}
 use Rattle.limits.specs.Range.{within}
-use Rattle.limits.proofs.BoolLaws.{and-true}
+use Rattle.limits.proofs.BoolLaws.{and-true, both}
 use Rattle.wire.specs.Strings.{number32, numberAt}
-use Rattle.wire.proofs.CauseLaws.{if-holds, if-fails, unless-holds, unless-fails}
+use Rattle.wire.proofs.CauseLaws.{if-holds, if-fails, if-none, unless-holds, unless-fails, unless-none}
 use Rattle.wire.proofs.StringLaws.{number-at}
 use Rattle.sha_words.specs.Constants.{known}
 use Rattle.methods.specs.Rows.{rowOf, kMost}
@@ -74,6 +74,25 @@ module _ (b : List ℕ) (letter len out : ℕ) where
             (sym (unless-holds (completed (decoded b)) 1 _ (and-true (fits b) (completed (decoded b)) c .1)
             ∙ unless-holds (within letterFirst letterLast letter && within 1 keyMost len) 4 _ (λ i. a i && l i)
             ∙ if-fails (ltb out len) 5 0 (le-ltb out len h)))
+
+-- where there is none, the exchange is complete and what was fed is right
+pub record Derives (b : List ℕ) (letter len out : ℕ) : Type 0 where
+  pub complete : (fits b && completed (decoded b)) ≡ true
+  pub letter-ok : within letterFirst letterLast letter ≡ true
+  pub length-ok : within 1 keyMost len ≡ true
+  pub long-enough : len ≤ out
+
+pub derives-known : (b : List ℕ) (letter len out : ℕ) → byFit b (deriveCause (decoded b) letter len out) 1 ≡ 0 → Derives b letter len out
+unfolding byFit deriveCause
+derives-known b letter len out z = by-fit (fits b) refl z
+  where
+    by-fit : (t : Bool) → fits b ≡ t → cond t (deriveCause (decoded b) letter len out) 1 ≡ 0 → Derives b letter len out
+    by-fit false f h = let w : ⊥ = omega arith in absurd w
+    by-fit true f h =
+        let c = unless-none (completed (decoded b)) 1 _ (omega arith) h in
+        let a = unless-none (within letterFirst letterLast letter && within 1 keyMost len) 4 _ (omega arith) (c .1) in
+        let e = and-true (within letterFirst letterLast letter) (within 1 keyMost len) (a .0) in
+        record { complete = both f (c .0); letter-ok = e .0; length-ok = e .1; long-enough = ltb-false out len (if-none (ltb out len) 5 0 (omega arith) (a .1) .0) }
 
 -- ---- what is read
 

@@ -74,13 +74,11 @@ fn write_key(kind: usize, k: &[u8], h: &[u8], letter: u8, id: &[u8], out: &mut [
     lay_key(kind, &kh[0..kh_len], &rest[0..rest_len], out);
 }
 
-// A key: 1 unless the exchange is complete, 4 for the letter or the length, 5 where the output is shorter; else it begins with the key.
-pub fn derive(ex: &[u8], letter: usize, len: usize, out: &mut [u8]) -> u8
+// The first cause against deriving: 1 unless the exchange is complete, 4 for the letter or the length, 5 where the output is shorter.
+fn derive_cause(ex: &[u8], letter: usize, len: usize, out: usize) -> u8
     ensures { λ n.
         let b = now (ex .entry) in
-        let o = now (out .entry) in
-        let cause = byFit b (deriveCause (decoded b) letter len (length o)) 1 in
-        ⌜ (n ≡ cause) × (now (out .exit) ≡ outputAfter cause o (keyIn (decoded b) letter len)) ⌝ }
+        ⌜ n ≡ byFit b (deriveCause (decoded b) letter len out) 1 ⌝ }
 {
     if !due::is_complete(ex) {
         return 1;
@@ -91,8 +89,23 @@ pub fn derive(ex: &[u8], letter: usize, len: usize, out: &mut [u8]) -> u8
     if !limits::in_range(1, limits::KEY_MOST, len) {
         return 4;
     }
-    if out.len() < len {
+    if out < len {
         return 5;
+    }
+    0
+}
+
+// A key: the first cause against it, or the output begins with it.
+pub fn derive(ex: &[u8], letter: usize, len: usize, out: &mut [u8]) -> u8
+    ensures { λ n.
+        let b = now (ex .entry) in
+        let o = now (out .entry) in
+        let cause = byFit b (deriveCause (decoded b) letter len (length o)) 1 in
+        ⌜ (n ≡ cause) × (now (out .exit) ≡ outputAfter cause o (keyIn (decoded b) letter len)) ⌝ }
+{
+    let n = derive_cause(ex, letter, len, out.len());
+    if n != 0 {
+        return n;
     }
     let kind = methods::digest_len(stored::byte_in(ex, stored::METHOD_AT));
     let k = stored::k_in(ex);
