@@ -259,6 +259,17 @@ def exchanges():
         yield [room, begin, f'set l2 {n}', init, begin, init, f'set l6 {n}', 'blank'], [
             '0', whole, '0' + forged, '1 0:-' + forged, whole, '0 5:', f'0 | ex 2.1.init.0.1,1,1,1,0,32,{n}', zeros]
     yield ['blank', 'set fail 9'], ['0 | ex 0.0.failed.0.', '0 | ex 0.0.failed.9.']
+    # a fault behind the secret step and any start leave neither K nor H, and no key
+    none = f' k={digest(bytes(71))} h={digest(bytes(64))} room='
+    secret = server(1, bytes(32), b'\1' * 32)
+    k, hashed = string(b'\1' * 32), b''.join(map(string, (b'a', b'b', b'\x14', b'\x14', b'k', bytes(32), bytes(32), b'\1' * 32)))
+    exchange_hash = bytes.fromhex(sha(32, hashed)[:64])
+    done = ['0', '0', '0', '0', '0 47 36', f'0 {out(derived(32, k, exchange_hash, 65, exchange_hash, 1))}']
+    sign, key, no_key = 'sign 73 00*5774 00*71', 'derive 65 1 00', f'1 {out(bytes(1))} | ex '
+    yield secret + ['set role 1', 'verdict 1 0 00*71', key], [
+        *done[:4], '0 | ex 1.1.secret.', f'18 0 {out(bytes(71))} | ex 1.1.failed.18.0,0,0,0,0,0,0{none}{digest(bytes(14156))}', f'{no_key}1.1.failed.18.']
+    yield secret + [sign, key, begin, key], [*done, f'{whole}{none}', f'{no_key}2.1.started.0.1,1,1,1,0,0,0{none}']
+    yield secret + [sign, key, 'start 2 0 61 62 14 14', key], [*done, f'2 | ex 0.0.failed.2.0,0,0,0,0,0,0{none}', f'{no_key}0.0.failed.2.']
 
 
 HASHED = ('V_C', 'V_S', 'I_C', 'I_S', 'K_S', 'C', 'S')
