@@ -333,8 +333,8 @@ CASTULFRISA_MUST_USE uint64_t castulfrisa_read_reply(
    k_pq    the KEM's CASTULFRISA_K_PQ_SIZE bytes where it is done, whatever the classical primitive did; empty where it is not.
    ks, s   a server's host key blob and own public value, also where a primitive failed; a client's are not looked at.
    h       becomes H: the method's hash of the room's first count bytes, as they stand behind this step.
-   K goes into the exchange and the room, in methods 7 to 9 the string of the method's hash of K_PQ and then X; a server's K_S goes into the
-   room ahead of C, its S behind it. Count: length of the hash input, which is the room's beginning.
+   K goes into the exchange and the room, in methods 7 to 9 the string of the method's hash of K_PQ and then X; H into the exchange; a server's
+   K_S goes into the room ahead of C, its S behind it. Count: length of the hash input, which is the room's beginning.
    1; 3; 4: one of the inputs, also any other number for kem; 16, 17: the primitives' failures, the peer's fault. */
 CASTULFRISA_MUST_USE uint64_t castulfrisa_take_secret(
     uint8_t *exchange, uint64_t exchange_len, uint8_t *room, uint64_t room_len,
