@@ -18,9 +18,10 @@ ghost use Rattle.lists.specs.Lists.{firstBad, proposed, tableCause};
 ghost use Rattle.kexinit.specs.Reader.{openList};
 ghost use Rattle.common.specs.Common.{any};
 ghost use Rattle.choice.specs.Choice.{chosen};
-ghost use Rattle.exchange.specs.Steps.{ownC, init, reply, secret as secretStep, sign as signStep, verdict as verdictStep, number, stepPart};
+ghost use Rattle.exchange.specs.Steps.{ownC, init, reply, secret as secretStep, sign as signStep, verdict as verdictStep, number, outputAfter, stepPart};
 ghost use Rattle.arguments.specs.Arguments.{isYes, classicalOf, kemOf};
 ghost use Rattle.stored.specs.Stored.{stageNumber, failNumber, decoded, byFit};
+ghost use Rattle.keys.specs.Derived.{deriveCause, keyIn};
 ghost use Rattle.lent.specs.Lent.{placeOf, left, lentStart, lentCall};
 ghost use Rattle.lent_hash.specs.LentHash.{hashLeft, hashStartLeft, hashFeedLeft, hashFinishLeft};
 ghost use Rattle.boundary.specs.Answers.{cursorOf, cursorNumbers, openedNumbers, choiceNumbers};
@@ -387,6 +388,18 @@ pub extern "C" fn castulfrisa_reply_signature(
         ⌜ (n ≡ byFit b (number (decoded b) (now (room .entry)) q) 1) × (now (place .exit) ≡ byFit b (placeOf (stepPart (decoded b) (now (room .entry)) q (now (payload .entry)) 2)) (zeros 2)) ⌝ }
 {
     lent_parts::reply_part(ex, room, payload, 2, place) as u64
+}
+
+// A key of a complete exchange, at the output's beginning.
+#[no_mangle]
+pub extern "C" fn castulfrisa_derive(ex: &[u8], letter: u64, len: u64, out: &mut [u8]) -> u64
+    ensures { λ n.
+        let b = now (ex .entry) in
+        let o = now (out .entry) in
+        let cause = byFit b (deriveCause (decoded b) letter len (length o)) 1 in
+        ⌜ (n ≡ cause) × (now (out .exit) ≡ outputAfter cause o (keyIn (decoded b) letter len)) ⌝ }
+{
+    keys::derive(ex, letter as usize, len as usize, out) as u64
 }
 
 // How far an exchange has come. Told: its stage, the number that ended it, its role and its method.

@@ -7,7 +7,7 @@ use native.Mathlib.Omega.{arith}
 use lib.ListN.{length}
 use lib.Dec.{leb, eqb}
 use borrow.Author.Tests.{leb-true, le-leb}
-use Rattle.limits.specs.Limits.{lengthMost, kSize, exchangeSize}
+use Rattle.limits.specs.Limits.{lengthMost, kSize, hSize, exchangeSize}
 use Rattle.limits.proofs.BoolLaws.{and-true, both, holds, fails}
 use Rattle.buffers.specs.Bytes.{zeros}
 use Rattle.wire.proofs.CauseLaws.{unless-fails}
@@ -51,25 +51,29 @@ short-fits l s = search (both, one-back)
 
 -- ---- the bytes
 
+-- K's record and H are as long as their types have them
+abbrev pub Sized : Exchange → Type 0
+Sized e = (length (e .k) ≡ kSize) × (length (e .h) ≡ hSize)
+
 -- what `lay` answers, and makes of as many zeros as an exchange has bytes
-abbrev Laid : Exchange → Bool → List ℕ → Type 0
+abbrev pub Laid : Exchange → Bool → List ℕ → Type 0
 Laid e t b = (t ≡ fitsTwo (e .lens)) × (b ≡ withExchange (zeros exchangeSize) e)
 
 module _ (e : Exchange) (t : Bool) (b : List ℕ) (l : Laid e t b) where
-  laid-long : not t ≡ true → ¬ Short (e .lens)
+  pub laid-long : not t ≡ true → ¬ Short (e .lens)
   laid-long h s = false≢true (sym (fails (l .0) h) ∙ short-fits (e .lens) s)
 
-  laid-short : not t ≡ false → length (e .k) ≡ kSize → Storable e × (b ≡ encoded e)
+  pub laid-short : not t ≡ false → Sized e → Storable e × (b ≡ encoded e)
   unfolding withExchange
   laid-short h k =
       let f = holds (l .0) h in
-      (record { short = short-known (e .lens) f; k-size = k }, l .1 ∙ rw f (sym (size-taken (zeros exchangeSize) (zeros exchangeSize) (encoded e) refl)))
+      (record { short = short-known (e .lens) f; k-size = k .0; h-size = k .1 }, l .1 ∙ rw f (sym (size-taken (zeros exchangeSize) (zeros exchangeSize) (encoded e) refl)))
 
 -- the exchange comes back
 exchange-back : (x : Exchange) (b : List ℕ) → Storable x → b ≡ encoded x → bySize b (decoded b) blank ≡ x
 exchange-back x b h e =
-    let n : length b ≡ exchangeSize = ap length e ∙ fits-known (encoded x) (encoded-fits x (h .k-size)) .0 in
-    sym (size-taken b blank (decoded b) n) ∙ ap decoded e ∙ decoded-encoded x (h .short)
+    let n : length b ≡ exchangeSize = ap length e ∙ fits-known (encoded x) (encoded-fits x (h .k-size) (h .h-size)) .0 in
+    sym (size-taken b blank (decoded b) n) ∙ ap decoded e ∙ decoded-encoded x (h .short) (h .k-size)
 
 -- ---- a step's number
 
@@ -78,7 +82,7 @@ module _ (n : ℕ) (e : Exchange) (room fed : ℕ) (t : Bool) (b : List ℕ) (l 
   unfolding stepNumber
   number-long h = sym (unless-fails (due n e) 1 _ (long-not-due n e (laid-long e t b l h)))
 
-  pub number-value : not t ≡ false → length (e .k) ≡ kSize → (r : ℕ) → r ≡ byFit b (stepNumber n (decoded b) room fed) 1 → r ≡ stepNumber n e room fed
+  pub number-value : not t ≡ false → Sized e → (r : ℕ) → r ≡ byFit b (stepNumber n (decoded b) room fed) 1 → r ≡ stepNumber n e room fed
   number-value h k r f =
       let s = laid-short e t b l h k in
       f ∙ ap (λ (y : List ℕ). byFit y (stepNumber n (decoded y) room fed) 1) (s .1) ∙ lent-is-step (λ (x : Exchange). stepNumber n x room fed) 1 e (s .0)
@@ -94,7 +98,7 @@ module _ (e : Exchange) (room : List ℕ) (q : Call) (t : Bool) (b : List ℕ) (
       let s = step-refused e room q 1 (sym n) (λ z. let w : ⊥ = omega arith in w) in
       (s .0, s .1, (λ z. let w : ⊥ = omega (arith, n, z) in w))
 
-  module _ (h : not t ≡ false) (k : length (e .k) ≡ kSize) (outs : List (List ℕ)) (n : ℕ) (told ex room′ : List ℕ) (outs′ : List (List ℕ)) (c : left n told ex room′ outs′ ≡ lentCall b room q outs) where
+  module _ (h : not t ≡ false) (k : Sized e) (outs : List (List ℕ)) (n : ℕ) (told ex room′ : List ℕ) (outs′ : List (List ℕ)) (c : left n told ex room′ outs′ ≡ lentCall b room q outs) where
     -- others: what was told, by the step's counts
     pub value-step : (count second : ℕ) → (AsStep e room q outs n told ex room′ outs′ → (count ≡ answered e room q .count) × (second ≡ answered e room q .second))
         → (back n count second ex ≡ answered e room q) × (room′ ≡ roomAfter e room q) × (outs′ ≡ outputsAfter (number e room q) outs (writes e room q))

@@ -59,6 +59,16 @@ pub fn put_k(b: &mut [u8], stage: u8, k: &[u8])
     buffers::put_bytes(b, stored::K_AT, k);
 }
 
+// H alone.
+pub fn put_h(b: &mut [u8], h: &[u8])
+    ensures { λ _. ⌜ now (b .exit) ≡ bySize (now (b .entry)) (laid (now (b .entry)) 90 (now (h .entry))) (now (b .entry)) ⌝ }
+{
+    if b.len() != limits::EXCHANGE_SIZE {
+        return;
+    }
+    buffers::put_bytes(b, stored::H_AT, h);
+}
+
 // The five single bytes.
 fn put_marks(b: &mut [u8], stage: u8, fail: u8, role: u8, method: u8)
     requires { ⌜ 5 ≤ length (now b) ⌝ }

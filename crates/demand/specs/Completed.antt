@@ -4,7 +4,8 @@ use mathlib.Core.Path.{_≡_}
 use mathlib.Core.List.{List}
 use mathlib.Core.Bool.{true}
 use Rattle.exchange.specs.Steps.{Call}
-use Rattle.exchange.specs.Book.{Book, isComplete}
+use Rattle.exchange.specs.Record.{isComplete}
+use Rattle.exchange.specs.Book.{Book}
 use Rattle.exchange.specs.declared.Exchange.{Exchange}
 use Rattle.demand.specs.Told.{Told}
 

@@ -125,5 +125,5 @@ demand3 b₀ room₀ calls numbers ex room h =
     record {
       held = held-there (k .role) (k .method) (k .vc) (k .vs) (k .ic) (k .is) room₀ b₀ calls numbers (decoded ex) room (k .book) (k .cause) (as-defined s);
       bytes-are = s .exchange ∙ ap encoded t ∙ (λ i. encoded (exchangeTold (lastBook (length room₀) (sym (k .book) i) calls) (sym (s .numbers) i)));
-      fitting = ap fits (s .exchange) ∙ encoded-fits (lastExchange x₀ o calls) (s .storable .k-size);
+      fitting = ap fits (s .exchange) ∙ encoded-fits (lastExchange x₀ o calls) (s .storable .k-size) (s .storable .h-size);
     }

@@ -46,24 +46,24 @@ start-called b role m vc vs ic is room h =
 
 -- and its bytes are found again
 pub found : (x : Exchange) → Storable x → decoded (encoded x) ≡ x
-found x h = decoded-encoded x (h .short)
+found x h = decoded-encoded x (h .short) (h .k-size)
 
 -- a step keeps the method
-taken-method : (x : Exchange) (q : Call) → taken x q .method ≡ x .method
+taken-method : (x : Exchange) (room : List ℕ) (q : Call) → taken x room q .method ≡ x .method
 unfolding taken
-taken-method x (ownC c out) = refl
-taken-method x (init p) = refl
-taken-method x (reply p) = refl
-taken-method x (secret cl v kem kPq ks s) = refl
-taken-method x (sign g out kOut) = refl
-taken-method x (verdict a b kOut) = refl
+taken-method x room (ownC c out) = refl
+taken-method x room (init p) = refl
+taken-method x room (reply p) = refl
+taken-method x room (secret cl v kem kPq ks s) = refl
+taken-method x room (sign g out kOut) = refl
+taken-method x room (verdict a b kOut) = refl
 
 pub method-kept : (x : Exchange) (room : List ℕ) (q : Call) → exchangeAfter x room q .method ≡ x .method
 unfolding exchangeAfter ended
 method-kept x room q = by-kind (kind (number x room q))
   where
-    by-kind : (k : Kind) → byKind k (taken x q) x (ended (number x room q) (x .role) (x .method)) .method ≡ x .method
-    by-kind accepted = taken-method x q
+    by-kind : (k : Kind) → byKind k (taken x room q) x (ended (number x room q) (x .role) (x .method)) .method ≡ x .method
+    by-kind accepted = taken-method x room q
     by-kind refused = refl
     by-kind fault = refl
 

@@ -12,7 +12,8 @@ use Rattle.buffers.specs.Bytes.{zeros}
 use Rattle.messages.specs.Messages.{initBytes}
 use Rattle.exchange.specs.Causes.{methodOk, roleOk, startCause}
 use Rattle.exchange.specs.Steps.{Call, ownC, init, reply, secret, sign, verdict, number, replyOf, answered, handedH, exchangeAfter, roomAfter, outputAfter, started, startedRoom}
-use Rattle.exchange.specs.Book.{opened, isComplete}
+use Rattle.exchange.specs.Record.{isComplete}
+use Rattle.exchange.specs.Book.{opened}
 use Rattle.exchange.specs.Demand.{numbersOf, lastExchange, lastRoom}
 use Rattle.exchange.specs.declared.Classical.{Classical}
 use Rattle.exchange.specs.declared.Classical.the-variants.{Failed as NoX, Given}

@@ -4,10 +4,11 @@ use mathlib.Core.Path.{_≡_, refl, sym, ap, _∙_}
 use mathlib.Core.List.{List, []}
 use mathlib.Core.Bool.{Bool, true, false, _&&_}
 use native.Mathlib.Omega.{arith}
-use lib.ListN.{length, drop, length-drop}
+use lib.ListN.{length, take, drop, length-drop, length-take}
 use lib.Dec.{leb}
 use borrow.Author.Tests.{le-leb, lt-leb, lt-ltb, le-ltb, eq-eqb, ne-eqb}
-use Rattle.limits.specs.Limits.{client, roomLeast, methodLast, server}
+use Rattle.limits.specs.Limits.{client, kSize, roomLeast, methodLast, server}
+use Rattle.limits.specs.Range.{within}
 use Rattle.limits.proofs.BoolLaws.{and-true}
 use Rattle.limits.proofs.RangeLaws.{within-is, within-low, within-high}
 use Rattle.wire.specs.Strings.{number32, numberAt}
@@ -17,8 +18,8 @@ use Rattle.methods.specs.Rows.{rowOf}
 use Rattle.methods.specs.declared.KForm.{KForm}
 use Rattle.methods.specs.declared.KForm.the-variants.{Mpint}
 use Rattle.methods.specs.declared.Method.{Method}
-use Rattle.exchange.specs.Causes.{methodOk}
-use Rattle.exchange.specs.Record.{noLengths, nextStep, clientNext, serverNext, hasK, lengthsFit, kBodyFits, kFits, due}
+use Rattle.exchange.specs.Causes.{methodOk, roleOk}
+use Rattle.exchange.specs.Record.{noLengths, nextStep, clientNext, serverNext, hasK, lengthsFit, kBodyFits, kFits, recordFits, due, isComplete, completed}
 use Rattle.exchange.specs.Steps.{stepNumber}
 use Rattle.exchange.specs.declared.Stage.{Stage}
 use Rattle.exchange.specs.declared.Lengths.{Lengths}
@@ -63,30 +64,54 @@ module _ (r : Method) (n : ℕ) where
     pub mpint-free : r .«zero_check» ≡ false → true ≡ kBodyFits Mpint r n
     mpint-free h = rw (le-leb n (r .«x_len» + 1) a, h)
 
--- ---- due
+-- ---- recordFits
 
-module _ (n : ℕ) (e : Exchange) where
-  pub due-other : (nextStep (e .role) (e .stage) ≡ n → ⊥) → false ≡ due n e
+module _ (e : Exchange) where
+  pub record-low : e .method < 1 → false ≡ recordFits e
+  unfolding recordFits methodOk
+  record-low h = rw (within-low 1 methodLast (e .method) h)
+
+  pub record-high : methodLast < e .method → false ≡ recordFits e
+  unfolding recordFits methodOk
+  record-high h = rw (within-high 1 methodLast (e .method) h)
+
+  module _ (b : 1 ≤ e .method) (c : e .method ≤ methodLast) where
+    pub record-lengths : lengthsFit (rowOf (e .method)) (e .stage) (e .lens) ≡ false → false ≡ recordFits e
+    unfolding recordFits methodOk
+    record-lengths h = rw (within-is 1 methodLast (e .method) b c, h)
+
+    pub record-k : lengthsFit (rowOf (e .method)) (e .stage) (e .lens) ≡ true → kFits (rowOf (e .method)) (e .stage) (e .k) ≡ recordFits e
+    unfolding recordFits methodOk
+    record-k h = rw (within-is 1 methodLast (e .method) b c, h)
+
+-- ---- due, and completed
+
+-- the role, as the code judges it
+pub role-range : (t : Bool) (n : ℕ) → t ≡ within client server n → t ≡ roleOk n
+unfolding roleOk
+role-range t n h = h
+
+module _ (e : Exchange) where
+  pub due-other : (n : ℕ) → (nextStep (e .role) (e .stage) ≡ n → ⊥) → false ≡ due n e
   unfolding due
-  due-other h = rw (ne-eqb (nextStep (e .role) (e .stage)) n h)
+  due-other n h = rw (ne-eqb (nextStep (e .role) (e .stage)) n h)
 
-  module _ (a : nextStep (e .role) (e .stage) ≡ n) where
-    pub due-low : e .method < 1 → false ≡ due n e
-    unfolding due methodOk
-    due-low h = rw (eq-eqb (nextStep (e .role) (e .stage)) n a, within-low 1 methodLast (e .method) h)
+  pub due-next : (n : ℕ) → nextStep (e .role) (e .stage) ≡ n → recordFits e ≡ due n e
+  unfolding due
+  due-next n a = rw (eq-eqb (nextStep (e .role) (e .stage)) n a)
 
-    pub due-high : methodLast < e .method → false ≡ due n e
-    unfolding due methodOk
-    due-high h = rw (eq-eqb (nextStep (e .role) (e .stage)) n a, within-high 1 methodLast (e .method) h)
+  pub completed-not : isComplete (e .stage) ≡ false → false ≡ completed e
+  unfolding completed
+  completed-not h = rw h
 
-    module _ (b : 1 ≤ e .method) (c : e .method ≤ methodLast) where
-      pub due-lengths : lengthsFit (rowOf (e .method)) (e .stage) (e .lens) ≡ false → false ≡ due n e
-      unfolding due methodOk
-      due-lengths h = rw (eq-eqb (nextStep (e .role) (e .stage)) n a, within-is 1 methodLast (e .method) b c, h)
+  module _ (a : isComplete (e .stage) ≡ true) where
+    pub completed-role : roleOk (e .role) ≡ false → false ≡ completed e
+    unfolding completed
+    completed-role h = rw (a, h)
 
-      pub due-k : lengthsFit (rowOf (e .method)) (e .stage) (e .lens) ≡ true → kFits (rowOf (e .method)) (e .stage) (e .k) ≡ due n e
-      unfolding due methodOk
-      due-k h = rw (eq-eqb (nextStep (e .role) (e .stage)) n a, within-is 1 methodLast (e .method) b c, h)
+    pub completed-record : roleOk (e .role) ≡ true → recordFits e ≡ completed e
+    unfolding completed
+    completed-record h = rw (a, h)
 
 -- ---- stepNumber
 
@@ -112,26 +137,26 @@ module _ (b : List ℕ) (f : fits b ≡ true) where
   unfolding decoded
   lens-read l h = h ∙ sym (size-taken b noLengths (lengthsIn b) (fits-known b f .0))
 
-  pub k-read : (k : List ℕ) → k ≡ bySize b (drop 19 b) [] → k ≡ decoded b .k
+  pub k-read : (k : List ℕ) → k ≡ bySize b (take kSize (drop 19 b)) [] → k ≡ decoded b .k
   unfolding decoded
-  k-read k h = h ∙ sym (size-taken b [] (drop 19 b) (fits-known b f .0))
+  k-read k h = h ∙ sym (size-taken b [] (take kSize (drop 19 b)) (fits-known b f .0))
 
-  pub k-size : (k : List ℕ) → k ≡ bySize b (drop 19 b) [] → 4 ≤ length k
+  pub k-size : (k : List ℕ) → k ≡ bySize b (take kSize (drop 19 b)) [] → 4 ≤ length k
   k-size k h =
       let n = fits-known b f .0 in
-      omega (arith, length-drop 19 b, ap length (h ∙ sym (size-taken b [] (drop 19 b) n)))
+      omega (arith, length-drop 19 b, length-take kSize (drop 19 b), ap length (h ∙ sym (size-taken b [] (take kSize (drop 19 b)) n)))
 
-  -- whether a step is due
-  pub due-on : (n : ℕ) (x : Bool) → x ≡ due n (decoded b) → x ≡ (fits b && due n (decoded b))
-  due-on n x h = rw f h
+  -- whether a step is due, or it is complete
+  pub fit-and : (x y : Bool) → x ≡ y → x ≡ (fits b && y)
+  fit-and x y h = rw f h
 
   -- and its number
   pub number-on : (n room fed r : ℕ) → r ≡ stepNumber n (decoded b) room fed → r ≡ byFit b (stepNumber n (decoded b) room fed) 1
   number-on n room fed r h = h ∙ fit-taken b (stepNumber n (decoded b) room fed) 1 f
 
 -- on bytes that no exchange has it is not
-pub unfit-due : (b : List ℕ) (n : ℕ) → fits b ≡ false → false ≡ (fits b && due n (decoded b))
-unfit-due b n f = rw f
+pub unfit-and : (b : List ℕ) (y : Bool) → fits b ≡ false → false ≡ (fits b && y)
+unfit-and b y f = rw f
 
 pub not-due-on : (b : List ℕ) (n room fed : ℕ) → (fits b && due n (decoded b)) ≡ false → 1 ≡ byFit b (stepNumber n (decoded b) room fed) 1
 not-due-on b n room fed h = by-fit (fits b) refl h

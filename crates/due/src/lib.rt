@@ -1,5 +1,5 @@
 // Whether a step is due on an exchange in lent bytes, and a step's number: that the bytes are one's and fit comes first, then the room, then
-// what was fed.
+// what was fed. Whether the exchange is complete.
 use exchange::Lengths;
 use exchange::Stage;
 use methods::KForm;
@@ -9,7 +9,7 @@ ghost use lib.ListN.{length};
 ghost use mathlib.Core.Bool.{true, _&&_};
 ghost use Rattle.methods.specs.Rows.{rowOf};
 ghost use Rattle.methods.specs.declared.KForm.the-variants.{Mpint};
-ghost use Rattle.exchange.specs.Record.{nextStep, hasC, hasS, hasK, cFits, sFits, lengthsFit, kBodyFits, kFits, due};
+ghost use Rattle.exchange.specs.Record.{nextStep, hasC, hasS, hasK, cFits, sFits, lengthsFit, kBodyFits, kFits, recordFits, due, isComplete, completed};
 ghost use Rattle.exchange.specs.Steps.{stepNumber};
 ghost use Rattle.stored.specs.Stored.{fits, LengthBytes, decoded, byFit};
 
@@ -170,18 +170,12 @@ fn mpint_fits(method: u8, n: usize) -> bool
     true
 }
 
-// Whether a step is due on an exchange in lent bytes. Where it is, its lengths were read, so that their bytes are
-// known to be below 256.
-fn is_due(n: u8, b: &[u8]) -> bool
-    ensures { λ r. ⌜ (r ≡ (fits (now (b .entry)) && due n (decoded (now (b .entry))))) × (r ≡ true → LengthBytes (now (b .entry))) ⌝ }
+// Whether what an exchange in lent bytes records fits its stage. Where it does, its lengths were read, so that their bytes are known to be
+// below 256.
+fn record_fits(b: &[u8], stage: Stage) -> bool
+    requires { ⌜ (fits (now b) ≡ true) × (stage ≡ decoded (now b) .stage) ⌝ }
+    ensures { λ r. ⌜ (r ≡ recordFits (decoded (now (b .entry)))) × (r ≡ true → LengthBytes (now (b .entry))) ⌝ }
 {
-    if !stored::fits(b) {
-        return false;
-    }
-    let stage = stored::stage_in(b);
-    if next_step(stored::byte_in(b, stored::ROLE_AT), stage) != n {
-        return false;
-    }
     let method = stored::byte_in(b, stored::METHOD_AT);
     if method < 1 {
         return false;
@@ -194,6 +188,57 @@ fn is_due(n: u8, b: &[u8]) -> bool
         return false;
     }
     k_fits(method, stage, stored::k_in(b))
+}
+
+// Whether a step is due on an exchange in lent bytes.
+fn is_due(n: u8, b: &[u8]) -> bool
+    ensures { λ r. ⌜ (r ≡ (fits (now (b .entry)) && due n (decoded (now (b .entry))))) × (r ≡ true → LengthBytes (now (b .entry))) ⌝ }
+{
+    if !stored::fits(b) {
+        return false;
+    }
+    let stage = stored::stage_in(b);
+    if next_step(stored::byte_in(b, stored::ROLE_AT), stage) != n {
+        return false;
+    }
+    record_fits(b, stage)
+}
+
+// Whether a stage is the last.
+fn is_last(stage: Stage) -> bool
+    ensures { λ r. ⌜ r ≡ isComplete stage ⌝ }
+{
+    match stage {
+        Stage::Started => false,
+        Stage::CSent => false,
+        Stage::InitRead => false,
+        Stage::ReplyRead => false,
+        Stage::SecretDone => false,
+        Stage::Complete => true,
+        Stage::Failed(_) => false,
+    }
+}
+
+// Whether an exchange in lent bytes is complete, and what it records fits.
+pub fn is_complete(b: &[u8]) -> bool
+    ensures { λ r. ⌜ r ≡ (fits (now (b .entry)) && completed (decoded (now (b .entry)))) ⌝ }
+{
+    if !stored::fits(b) {
+        return false;
+    }
+    let stage = stored::stage_in(b);
+    if !is_last(stage) {
+        return false;
+    }
+    let role = stored::byte_in(b, stored::ROLE_AT);
+    if !limits::in_range(
+        limits::CLIENT as usize,
+        limits::SERVER as usize,
+        role as usize,
+    ) {
+        return false;
+    }
+    record_fits(b, stage)
 }
 
 // A step's number: 1 where it is not due, 3 where the room is too short, then the first cause in what it was fed.

@@ -22,8 +22,9 @@ use Rattle.methods.specs.Sound.{Sound}
 use Rattle.methods.proofs.FormLaws.{formed-complete}
 use Rattle.messages.specs.Messages.{initBytes, replyBytes}
 use Rattle.exchange.specs.Causes.{methodOk, roleOk, versionOk, kexinitOk, startCause, ownCCause, initCause, replyCause, xOk, present, kPqFor, ownOk, restOk, allZero, kemBad, secretCause, signCause, verdictCause}
+use Rattle.exchange.specs.Record.{isComplete}
 use Rattle.exchange.specs.Steps.{Call, ownC, init, reply, sign, verdict, stepNo, fedCause, started, startedRoom}
-use Rattle.exchange.specs.Book.{Book, opened, stepsOf, firstCause, moved, noted, hasAll, isComplete, lastBook}
+use Rattle.exchange.specs.Book.{Book, opened, stepsOf, firstCause, moved, noted, hasAll, lastBook}
 use Rattle.exchange.specs.Demand.{lastExchange}
 use Rattle.exchange.proofs.KindLaws.{kind-accepted}
 use Rattle.exchange.proofs.ReadBack.{init-back, reply-back}

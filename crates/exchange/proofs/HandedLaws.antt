@@ -1,34 +1,39 @@
 -- What an accepted call hands out is what the book says: hash input and its length, H, REPLY, and K. Assumes nothing.
-use Prim.Native.Nat.{ℕ, _+_, _≤_}
-use mathlib.Core.Path.{_≡_, refl, sym, ap, _∙_}
+use Prim.Native.Nat.{ℕ, _+_, _-_, _≤_}
+use mathlib.Core.Path.{_≡_, refl, sym, ap, _∙_, subst}
 use mathlib.Core.List.{List, [], _∷_}
-use mathlib.Core.Bool.{Bool, true, false, cond}
+use mathlib.Core.Bool.{Bool, true, false, cond, false≢true}
 use native.Mathlib.Omega.{arith}
 use lib.ListN.{length, getD, take, drop}
 use lib.Seq.{take-at}
 use lib.Dec.{eqb}
 use borrow.Author.Tests.{eqb-true}
-use Rattle.limits.specs.Limits.{blobMost, roomLeast, server}
+use Rattle.limits.specs.Limits.{blobMost, kSize, hSize, roomLeast, server}
+use Rattle.limits.proofs.BoolLaws.{both}
 use Rattle.limits.proofs.RangeLaws.{within-least}
-use Rattle.buffers.specs.Bytes.{onto}
+use Rattle.buffers.specs.Bytes.{zeros, onto}
+use Rattle.sha_words.specs.Message.{sha2, sized}
+use Rattle.sha_words.proofs.DigestLaws.{length-sha2}
 use Rattle.wire.proofs.CauseLaws.{unless-none}
+use Rattle.methods.specs.Rows.{rowOf}
 use Rattle.methods.proofs.FormLaws.{s-least}
 use Rattle.messages.specs.Messages.{replyBytes, fieldOf}
-use Rattle.exchange.specs.Causes.{blobOk, replyCause, signCause, kOf, hOf}
+use Rattle.exchange.specs.Causes.{methodOk, roleOk, blobOk, replyCause, signCause, kOf, hOf}
 use Rattle.exchange.specs.Numbers.{Kind, accepted, refused, fault, kind, byKind}
-use Rattle.exchange.specs.Record.{kLength}
-use Rattle.exchange.specs.Steps.{Call, secret, sign, verdict, stepNo, fedCause, number, fieldsEnd, filled, taken, kRecord, replyOf, countOf, handedH, roomAfter}
-use Rattle.exchange.specs.Book.{Fields, Book, brings, stepsOf, firstCause, fieldsAfter, moved, dropped, noted, hashInput, lastBook}
-use Rattle.exchange.specs.ExchangeTold.{exchangeOf}
+use Rattle.exchange.specs.Record.{kLength, cFits, sFits, kFits, isComplete, completed}
+use Rattle.exchange.specs.Steps.{Call, secret, sign, verdict, stepNo, fedCause, number, fieldsEnd, filled, inputLength, taken, kRecord, replyOf, countOf, handedH, roomAfter}
+use Rattle.exchange.specs.Book.{Fields, Book, brings, stepsOf, firstCause, fieldsAfter, moved, dropped, noted, hashInput, hOnce, hTold, lastBook}
+use Rattle.exchange.specs.ExchangeTold.{lengthsIn, exchangeOf}
 use Rattle.exchange.specs.declared.Classical.{Classical}
 use Rattle.exchange.specs.declared.Kem.{Kem}
 use Rattle.exchange.specs.declared.Exchange.{Exchange}
 use Rattle.exchange.proofs.KindLaws.{kind-accepted}
-use Rattle.exchange.proofs.CauseFacts.{Base, FormedS, Blob, Key, method-least, method-most}
-use Rattle.exchange.proofs.HashLaws.{hash-length, ks-stands, s-stands}
+use Rattle.exchange.proofs.CauseFacts.{Base, FormedS, Blob, Key, method-row, method-least, method-most}
+use Rattle.exchange.proofs.DueLaws.{lengths-fit, record-fits, completed-fits}
+use Rattle.exchange.proofs.HashLaws.{fieldsOf, hash-length, ks-stands, s-stands}
 use Rattle.exchange.proofs.StepLaws.{step-accepted, handed-accepted}
 use Rattle.exchange.proofs.ReadBack.{reply-back}
-use Rattle.exchange.proofs.Simulation.{Reachable, client0, client1, client2, client3, client4, server0, server1, server2, server3, accepts, Sim, live, dead, number-live, no-cause, dead-number}
+use Rattle.exchange.proofs.Simulation.{book, Reachable, client0, client1, client2, client3, client4, server0, server1, server2, server3, accepts, Sim, live, dead, number-live, no-cause, dead-number}
 
 -- a call that is accepted finds the exchange and the room as the book tells them, and has no cause against it there
 record Live (room : List ℕ) (b : Book) (e : Exchange) (room′ : List ℕ) (q : Call) : Type 0 where
@@ -44,7 +49,7 @@ live-of room b e room′ q h (live s x y) z = record {
   room-is = y;
   cause = sym (number-live room b q h s) ∙ (λ i. number (sym x i) (sym y i) q) ∙ z;
 }
-live-of room b e room′ q h (dead n x f y w u) z = let v = dead-number e room′ n q y in let w : ⊥ = omega arith in absurd w
+live-of room b e room′ q h (dead n x f y w h′ u) z = let v = dead-number e room′ n q y in let w : ⊥ = omega arith in absurd w
 
 noted-moved : (l : ℕ) (b : Book) (q : Call) → firstCause l b q ≡ 0 → noted l b q ≡ moved b q
 unfolding noted
@@ -64,7 +69,7 @@ module _ (room : List ℕ) (b : Book) (e : Exchange) (room′ : List ℕ) (h : r
   pub secret-handed : (cl : Classical) (x : List ℕ) (kem : Kem) (kPq ks s : List ℕ) → number e room′ (secret cl x kem kPq ks s) ≡ 0
       → (countOf e room′ (secret cl x kem kPq ks s) ≡ length (hashInput (noted (length room) b (secret cl x kem kPq ks s) .fields)))
       × (take (countOf e room′ (secret cl x kem kPq ks s)) (roomAfter e room′ (secret cl x kem kPq ks s)) ≡ hashInput (noted (length room) b (secret cl x kem kPq ks s) .fields))
-  unfolding countOf onto
+  unfolding countOf onto taken
   secret-handed cl x kem kPq ks s z =
       let q : Call = secret cl x kem kPq ks s in
       let l = live-of room b e room′ q h sim z in
@@ -73,7 +78,7 @@ module _ (room : List ℕ) (b : Book) (e : Exchange) (room′ : List ℕ) (h : r
       let f : Fields = fieldsAfter (b .role) (b .method) (b .fields) q in
       let m : noted (length room) b q .fields ≡ f = ap (λ (y : Book). y .fields) (noted-moved (length room) b q (l .cause)) in
       let n : countOf e room′ q ≡ length (hashInput f) =
-      (λ i. fieldsEnd (taken (l .exchange i) q .lens) + length (kOf (l .exchange i .method) x kPq))
+      (λ i. inputLength (l .exchange i) x kPq ks s)
       ∙ (λ i. fieldsEnd (w .exchange i .lens) + length (sym (secret-k (b .role) (b .method) (b .fields) cl x kem kPq ks s) i))
       ∙ sym (hash-length (f .vc) (f .vs) (f .ic) (f .is) (f .ks) (f .c) (f .s) (f .k)) in
       let r : roomAfter e room′ q ≡ onto room (hashInput f) =
@@ -86,6 +91,7 @@ module _ (room : List ℕ) (b : Book) (e : Exchange) (room′ : List ℕ) (h : r
   pub secret-hashed : (cl : Classical) (x : List ℕ) (kem : Kem) (kPq ks s : List ℕ) → number e room′ (secret cl x kem kPq ks s) ≡ 0
       → handedH e room′ (secret cl x kem kPq ks s)
       ≡ hOf (b .method) (hashInput (noted (length room) b (secret cl x kem kPq ks s) .fields))
+  unfolding countOf taken filled
   secret-hashed cl x kem kPq ks s z =
       let q : Call = secret cl x kem kPq ks s in
       let l = live-of room b e room′ q h sim z in
@@ -107,6 +113,56 @@ noted-method l b q = by-kind (kind (firstCause l b q))
 pub book-method : (l : ℕ) (b : Book) (qs : List Call) → lastBook l b qs .method ≡ b .method
 book-method l b [] = refl
 book-method l b (q ∷ qs) = book-method l (noted l b q) qs ∙ noted-method l b q
+
+-- ---- a complete exchange
+
+-- it fits, and holds the book's K and the hash of the book's hash input
+pub record Ready (b : Book) (e : Exchange) : Type 0 where
+  pub fits : completed e ≡ true
+  pub method-is : e .method ≡ b .method
+  pub method-ok : methodOk (b .method) ≡ true
+  pub k-in : take (kLength (e .k)) (e .k) ≡ b .fields .k
+  pub h-in : take (rowOf (b .method) .«digest_len») (e .h) ≡ sha2 (rowOf (b .method) .«digest_len») (hashInput (b .fields))
+
+k-front : (k : List ℕ) → kLength (kRecord k) ≡ length k → take (kLength (kRecord k)) (kRecord k) ≡ k
+unfolding kRecord onto
+k-front k l = take-at k (drop (length k) (zeros kSize)) _ (sym l)
+
+h-front : (m : ℕ) (k input : List ℕ) → methodOk m ≡ true → kLength (kRecord k) ≡ length k → take (rowOf m .«digest_len») (hOnce m k input) ≡ sha2 (rowOf m .«digest_len») input
+unfolding sized
+h-front m [] input ok l = let w : ⊥ = omega (arith, l) in absurd w
+h-front m (y ∷ k) input ok l = take-at (sha2 (rowOf m .«digest_len») input) (zeros (hSize - length (sha2 (rowOf m .«digest_len») input))) _ (length-sha2 (rowOf m .«digest_len») input (method-row m ok .digest-kind))
+
+ready-is : (b : Book) → isComplete (exchangeOf b .stage) ≡ true → roleOk (b .role) ≡ true → Base (b .method) (b .fields .vc) (b .fields .vs) (b .fields .ic) (b .fields .is)
+    → cFits (rowOf (b .method)) (exchangeOf b .stage) (lengthsIn (b .fields)) ≡ true → sFits (rowOf (b .method)) (exchangeOf b .stage) (lengthsIn (b .fields)) ≡ true
+    → kFits (rowOf (b .method)) (exchangeOf b .stage) (kRecord (b .fields .k)) ≡ true → Key (b .method) (b .fields .k) → Ready b (exchangeOf b)
+unfolding hTold
+ready-is b z r a c s k y = record {
+  fits = completed-fits (exchangeOf b) z r
+      (record-fits (exchangeOf b) (a .method-ok) (lengths-fit (rowOf (b .method)) (exchangeOf b .stage) (lengthsIn (b .fields)) (a .vc-ok) (a .vs-ok) (a .ic-ok) (a .is-ok) c s) k);
+  method-is = refl;
+  method-ok = a .method-ok;
+  k-in = k-front (b .fields .k) (y .len);
+  h-in = h-front (b .method) (b .fields .k) (hashInput (b .fields)) (a .method-ok) (y .len);
+}
+
+ready-of : {b : Book} → Reachable b → isComplete (exchangeOf b .stage) ≡ true → Ready b (exchangeOf b)
+unfolding cFits sFits kFits roleOk
+ready-of (client0 a) z = absurd (false≢true z)
+ready-of (client1 a c) z = absurd (false≢true z)
+ready-of (client2 a c k s) z = absurd (false≢true z)
+ready-of (client3 a c k s y) z = absurd (false≢true z)
+ready-of (client4 {m} {vc} {vs} {ic} {is} {ks = fk} {c = fc} {s = fs} {k = ky} a c k s y) z =
+    ready-is (book 1 m 4 (fieldsOf vc vs ic is fk fc fs ky)) z refl a (c .len) (both (k .ok) (s .len)) (y .ok) y
+ready-of (server0 a) z = absurd (false≢true z)
+ready-of (server1 a c) z = absurd (false≢true z)
+ready-of (server2 a c k s y) z = absurd (false≢true z)
+ready-of (server3 {m} {vc} {vs} {ic} {is} {ks = fk} {c = fc} {s = fs} {k = ky} a c k s y) z =
+    ready-is (book 2 m 3 (fieldsOf vc vs ic is fk fc fs ky)) z refl a (c .len) (both (k .ok) (s .len)) (y .ok) y
+
+pub complete-ready : (room : List ℕ) (b : Book) (e : Exchange) (room′ : List ℕ) → Sim room b e room′ → isComplete (e .stage) ≡ true → Ready b e
+complete-ready room b e room′ (live s x y) z = subst (Ready b) (sym x) (ready-of s (ap (λ (v : Exchange). isComplete (v .stage)) (sym x) ∙ z))
+complete-ready room b e room′ (dead n x f y w v u) z = absurd (false≢true (ap isComplete (sym y) ∙ z))
 
 -- ---- signature and verdict: the book has every field, K too
 

@@ -5,10 +5,11 @@ use mathlib.Core.Logic.{_⊎_, inl, inr, ⊎-elim}
 use mathlib.Core.List.{List, [], _∷_, _++_, append-nil}
 use mathlib.Core.Bool.{Bool, true, false, cond, not, _||_, false≢true}
 use native.Mathlib.Omega.{arith}
-use lib.ListN.{length, getD}
+use lib.ListN.{length, getD, take, drop}
+use lib.Seq.{take-at}
 use lib.Dec.{eqb, ltb}
 use borrow.Author.Tests.{eqb-true, eqb-false, le-ltb}
-use Rattle.limits.specs.Limits.{versionMost, kexinitMost, blobMost, kSize, roomLeast, replyLeast}
+use Rattle.limits.specs.Limits.{versionMost, kexinitMost, blobMost, kSize, hSize, roomLeast, replyLeast}
 use Rattle.limits.proofs.BoolLaws.{both}
 use Rattle.limits.proofs.RangeLaws.{within-least, within-most}
 use Rattle.buffers.specs.Bytes.{zeros, onto}
@@ -21,19 +22,19 @@ use Rattle.messages.specs.Messages.{fieldOf}
 use Rattle.transcript.specs.Fields.{field}
 use Rattle.transcript.proofs.RoomLaws.{fieldLength-most}
 use Rattle.exchange.specs.Numbers.{isFault, Kind, accepted, refused, fault, kind, byKind}
-use Rattle.exchange.specs.Causes.{blobOk, roleOk, startCause, signCause}
-use Rattle.exchange.specs.Record.{ended, nextStep, cFits, sFits, kFits, due}
-use Rattle.exchange.specs.Steps.{Call, ownC, init, reply, secret, sign, verdict, stepNo, fedCause, number, stepNumber, filled, taken, kRecord, exchangeAfter, roomAfter, started, startedRoom}
+use Rattle.exchange.specs.Causes.{blobOk, roleOk, startCause, signCause, kOf, hOf}
+use Rattle.exchange.specs.Record.{ended, nextStep, kLength, cFits, sFits, kFits, due, isComplete}
+use Rattle.exchange.specs.Steps.{Call, ownC, init, reply, secret, sign, verdict, stepNo, fedCause, number, stepNumber, filled, withSecret, taken, kRecord, exchangeAfter, roomAfter, started, startedRoom}
 use Rattle.exchange.proofs.KindLaws.{kind-is-accepted, kind-fault, kind-refused}
 use Rattle.exchange.proofs.TableLaws.{OfEach, if-keeps, unless-keeps, fed-keeps}
-use Rattle.exchange.specs.Book.{Fields, Book, noFields, opened, stepsOf, firstCause, fieldsAfter, moved, dropped, noted, hasAll, hashInput, roomTold, isComplete, causes, lastBook}
+use Rattle.exchange.specs.Book.{Fields, Book, noFields, opened, stepsOf, firstCause, fieldsAfter, moved, dropped, noted, hasAll, hashInput, roomTold, hOnce, hTold, causes, lastBook}
 use Rattle.exchange.specs.Demand.{numbersOf, lastExchange, lastRoom, Never, AllOnes, SilentAfterFault, Held}
 use Rattle.exchange.specs.ExchangeTold.{lengthsIn, exchangeOf}
 use Rattle.exchange.specs.declared.Stage.the-variants.{Started, Failed}
 use Rattle.exchange.specs.declared.Exchange.{Exchange}
 use Rattle.exchange.specs.declared.Step.{Step}
 use Rattle.exchange.proofs.CauseFacts.{Base, FormedC, FormedS, Blob, Key, method-row, start-known, own-c-formed, init-formed, reply-formed, secret-known, own-formed, key-sized}
-use Rattle.exchange.proofs.DueLaws.{lengths-fit, due-fits, next-failed}
+use Rattle.exchange.proofs.DueLaws.{lengths-fit, record-fits, due-fits, next-failed}
 use Rattle.exchange.proofs.HashLaws.{fieldsOf, hash-length, room-c, room-k, room-reply, room-secret}
 
 abbrev pub book : ℕ → ℕ → ℕ → Fields → Book
@@ -59,7 +60,8 @@ due-is : (b : Book) (q : Call) → Base (b .method) (b .fields .vc) (b .fields .
     → kFits (rowOf (b .method)) (exchangeOf b .stage) (kRecord (b .fields .k)) ≡ true
     → due (stepNo q) (exchangeOf b) ≡ eqb (nextStep (b .role) (exchangeOf b .stage)) (stepNo q)
 due-is b q a c s k =
-    due-fits (stepNo q) (exchangeOf b) (a .method-ok) (lengths-fit (rowOf (b .method)) (exchangeOf b .stage) (lengthsIn (b .fields)) (a .vc-ok) (a .vs-ok) (a .ic-ok) (a .is-ok) c s) k
+    due-fits (stepNo q) (exchangeOf b)
+    (record-fits (exchangeOf b) (a .method-ok) (lengths-fit (rowOf (b .method)) (exchangeOf b .stage) (lengthsIn (b .fields)) (a .vc-ok) (a .vs-ok) (a .ic-ok) (a .is-ok) c s) k)
 
 due-of-book : {b : Book} → Reachable b → (q : Call) → due (stepNo q) (exchangeOf b) ≡ eqb (getD (stepsOf (b .role)) (b .done) 0) (stepNo q)
 unfolding cFits sFits kFits
@@ -77,11 +79,17 @@ due-of-book (server3 {m} {vc} {vs} {ic} {is} {ks = fk} {c = fc} {s = fs} {k = ky
 
 pub record Follows (room : List ℕ) (b : Book) (q : Call) : Type 0 where
   pub sound : Reachable (moved b q)
-  pub exchange : taken (exchangeOf b) q ≡ exchangeOf (moved b q)
+  pub exchange : taken (exchangeOf b) (onto room (hashInput (b .fields))) q ≡ exchangeOf (moved b q)
   pub room-is : filled (exchangeOf b) (onto room (hashInput (b .fields))) q ≡ onto room (hashInput (fieldsAfter (b .role) (b .method) (b .fields) q))
 
+-- H of the room's first bytes, where these are the hash input and K is one of its fields
+h-once : (m n : ℕ) (room r k input : List ℕ) → n ≡ length input → r ≡ onto room input → kLength (kRecord k) ≡ length k → hOf m (take n r) ≡ hOnce m k input
+unfolding onto
+h-once m n room r [] input a b l = let w : ⊥ = omega (arith, l) in absurd w
+h-once m n room r (y ∷ k) input a b l = ap (λ (v : List ℕ). hOf m (take n v)) b ∙ ap (hOf m) (take-at input (drop (length input) room) n (sym a))
+
 pub accepts : (room : List ℕ) {b : Book} → Reachable b → (q : Call) → eqb (getD (stepsOf (b .role)) (b .done) 0) (stepNo q) ≡ true → fedCause (b .role) (b .method) q ≡ 0 → Follows room b q
-unfolding fedCause fieldsAfter taken filled
+unfolding fedCause fieldsAfter taken filled hTold
 accepts room (client0 a) (ownC c′ out) e z = record { sound = client1 a (own-c-formed _ c′ _ z); exchange = refl; room-is = room-c _ _ _ _ room c′ }
 accepts room (client0 a) (init p) e z = absurd (false≢true e)
 accepts room (client0 a) (reply p) e z = absurd (false≢true e)
@@ -97,7 +105,13 @@ accepts room (client1 a c) (verdict u v kOut) e z = absurd (false≢true e)
 accepts room (client2 a c k s) (ownC c′ out) e z = absurd (false≢true e)
 accepts room (client2 a c k s) (init p) e z = absurd (false≢true e)
 accepts room (client2 a c k s) (reply p) e z = absurd (false≢true e)
-accepts room (client2 a c k s) (secret cl x kem kPq ks′ s′) e z = record { sound = client3 a c k s (key-sized 1 _ cl x kem kPq ks′ s′ (a .method-ok) z); exchange = refl; room-is = room-k _ _ _ _ room _ _ _ _ }
+accepts room (client2 {m} {vc} {vs} {ic} {is} {ks = fk} {c = fc} {s = fs} a c k s) (secret cl x kem kPq ks′ s′) e z =
+    let y = key-sized 1 m cl x kem kPq ks′ s′ (a .method-ok) z in
+    let r = room-k vc vs ic is room fk fc fs (kOf m x kPq) in
+    let b = book 1 m 2 (fieldsOf vc vs ic is fk fc fs []) in
+    let f = fieldsOf vc vs ic is fk fc fs (kOf m x kPq) in
+    let h = h-once m _ room _ (kOf m x kPq) (hashInput f) (sym (hash-length vc vs ic is fk fc fs (kOf m x kPq))) r (y .len) in
+    record { sound = client3 a c k s y; exchange = λ i. withSecret (exchangeOf b) (lengthsIn f) (kRecord (kOf m x kPq)) (h i); room-is = r }
 accepts room (client2 a c k s) (sign g out kOut) e z = absurd (false≢true e)
 accepts room (client2 a c k s) (verdict u v kOut) e z = absurd (false≢true e)
 accepts room (client3 a c k s y) (ownC c′ out) e z = absurd (false≢true e)
@@ -121,7 +135,14 @@ accepts room (server0 a) (verdict u v kOut) e z = absurd (false≢true e)
 accepts room (server1 a c) (ownC c′ out) e z = absurd (false≢true e)
 accepts room (server1 a c) (init p) e z = absurd (false≢true e)
 accepts room (server1 a c) (reply p) e z = absurd (false≢true e)
-accepts room (server1 a c) (secret cl x kem kPq ks′ s′) e z = let o = own-formed _ ks′ s′ (secret-known 2 _ cl x kem kPq ks′ s′ z .3) in record { sound = server2 a c (o .0) (o .1) (key-sized 2 _ cl x kem kPq ks′ s′ (a .method-ok) z); exchange = refl; room-is = room-secret _ _ _ _ room ks′ _ s′ _ }
+accepts room (server1 {m} {vc} {vs} {ic} {is} {c = fc} a c) (secret cl x kem kPq ks′ s′) e z =
+    let o = own-formed m ks′ s′ (secret-known 2 m cl x kem kPq ks′ s′ z .3) in
+    let y = key-sized 2 m cl x kem kPq ks′ s′ (a .method-ok) z in
+    let r = room-secret vc vs ic is room ks′ fc s′ (kOf m x kPq) in
+    let b = book 2 m 1 (fieldsOf vc vs ic is [] fc [] []) in
+    let f = fieldsOf vc vs ic is ks′ fc s′ (kOf m x kPq) in
+    let h = h-once m _ room _ (kOf m x kPq) (hashInput f) (sym (hash-length vc vs ic is ks′ fc s′ (kOf m x kPq))) r (y .len) in
+    record { sound = server2 a c (o .0) (o .1) y; exchange = λ i. withSecret (exchangeOf b) (lengthsIn f) (kRecord (kOf m x kPq)) (h i); room-is = r }
 accepts room (server1 a c) (sign g out kOut) e z = absurd (false≢true e)
 accepts room (server1 a c) (verdict u v kOut) e z = absurd (false≢true e)
 accepts room (server2 a c k s y) (ownC c′ out) e z = absurd (false≢true e)
@@ -205,7 +226,7 @@ sound-live (server3 a c k s y) = refl
 
 pub data Sim (room : List ℕ) (b : Book) (e : Exchange) (room′ : List ℕ) : Type 0 where
   live : Reachable b → e ≡ exchangeOf b → room′ ≡ onto room (hashInput (b .fields)) → Sim room b e room′
-  dead : (n : ℕ) → b .faulted ≡ true → b .fields ≡ noFields → e .stage ≡ Failed n → e .k ≡ kRecord [] → room′ ≡ zeros (length room) → Sim room b e room′
+  dead : (n : ℕ) → b .faulted ≡ true → b .fields ≡ noFields → e .stage ≡ Failed n → e .k ≡ kRecord [] → e .h ≡ zeros hSize → room′ ≡ zeros (length room) → Sim room b e room′
 
 pub number-live : (room : List ℕ) (b : Book) (q : Call) → roomLeast ≤ length room → Reachable b →
     number (exchangeOf b) (onto room (hashInput (b .fields))) q ≡ firstCause (length room) b q
@@ -227,6 +248,10 @@ ended-k : (n role m : ℕ) → ended n role m .k ≡ kRecord []
 unfolding ended
 ended-k n role m = no-k
 
+ended-h : (n role m : ℕ) → ended n role m .h ≡ zeros hSize
+unfolding ended
+ended-h n role m = refl
+
 -- a call without a cause is next, and nothing is wrong with what it was fed
 pub no-cause : (l : ℕ) (b : Book) (q : Call) → firstCause l b q ≡ 0 → (eqb (getD (stepsOf (b .role)) (b .done) 0) (stepNo q) ≡ true) × (fedCause (b .role) (b .method) q ≡ 0)
 unfolding firstCause
@@ -236,7 +261,7 @@ no-cause l b q z =
 
 -- a call on a live exchange goes by the kind of its number
 settle : (room : List ℕ) (b : Book) (q : Call) (n : ℕ) (k : Kind) → roomLeast ≤ length room → Reachable b → n ≡ firstCause (length room) b q → kind n ≡ k →
-    Sim room (byKind k (moved b q) b (dropped b)) (byKind k (taken (exchangeOf b) q) (exchangeOf b) (ended n (b .role) (b .method)))
+    Sim room (byKind k (moved b q) b (dropped b)) (byKind k (taken (exchangeOf b) (onto room (hashInput (b .fields))) q) (exchangeOf b) (ended n (b .role) (b .method)))
     (byKind k (filled (exchangeOf b) (onto room (hashInput (b .fields))) q) (onto room (hashInput (b .fields))) (zeros (length (onto room (hashInput (b .fields))))))
 settle room b q n accepted h s e k =
     let u = no-cause (length room) b q (sym e ∙ kind-is-accepted n k) in
@@ -245,7 +270,7 @@ settle room b q n accepted h s e k =
 settle room b q n refused h s e k = live s refl refl
 settle room b q n fault h s e k =
     let t : length (hashInput (b .fields)) ≤ length room = omega (arith, total s) in
-    dead n refl refl (ended-stage n (b .role) (b .method)) (ended-k n (b .role) (b .method)) (ap zeros (length-onto room (hashInput (b .fields)) t))
+    dead n refl refl (ended-stage n (b .role) (b .method)) (ended-k n (b .role) (b .method)) (ended-h n (b .role) (b .method)) (ap zeros (length-onto room (hashInput (b .fields)) t))
 
 -- no step is due on an exchange that failed
 dead-due : (e : Exchange) (n : ℕ) (q : Call) → e .stage ≡ Failed n → due (stepNo q) e ≡ false
@@ -276,8 +301,8 @@ pub step : (room : List ℕ) (b : Book) (e : Exchange) (room′ : List ℕ) (q :
     (number e room′ q ≡ firstCause (length room) b q) × Sim room (noted (length room) b q) (exchangeAfter e room′ q) (roomAfter e room′ q)
 unfolding exchangeAfter roomAfter noted
 step room b e room′ q h (live s x y) = rw (x, y) (number-live room b q h s, rw (number-live room b q h s) (settle room b q _ _ h s refl refl))
-step room b e room′ q h (dead n x f y w z) =
-    (dead-number e room′ n q y ∙ sym (dead-cause (length room) b q x), rw (dead-number e room′ n q y, dead-cause (length room) b q x, kind-refused 1 (λ u. omega arith) refl) (dead n x f y w z))
+step room b e room′ q h (dead n x f y w v z) =
+    (dead-number e room′ n q y ∙ sym (dead-cause (length room) b q x), rw (dead-number e room′ n q y, dead-cause (length room) b q x, kind-refused 1 (λ u. omega arith) refl) (dead n x f y w v z))
 
 -- a list of calls
 run : (room : List ℕ) (b : Book) (e : Exchange) (room′ : List ℕ) (qs : List Call) → roomLeast ≤ length room → Sim room b e room′ →
@@ -328,21 +353,26 @@ silent l b (q ∷ qs) = (λ h. ones l (noted l b q) qs (faulted l b q h), silent
 complete-sim : (room : List ℕ) (b : Book) (e : Exchange) (room′ : List ℕ) → Sim room b e room′ → isComplete (e .stage) ≡ hasAll b
 unfolding hasAll
 complete-sim room b e room′ (live s x y) = rw x (complete-of-book s)
-complete-sim room b e room′ (dead n x f y w z) = rw (x, y)
+complete-sim room b e room′ (dead n x f y w v z) = rw (x, y)
 
 room-sim : (room : List ℕ) (b : Book) (e : Exchange) (room′ : List ℕ) → Sim room b e room′ → room′ ≡ roomTold b room
 unfolding roomTold
 room-sim room b e room′ (live s x y) = rw (sound-live s) y
-room-sim room b e room′ (dead n x f y w z) = rw x z
+room-sim room b e room′ (dead n x f y w v z) = rw x z
 
 most-sim : (room : List ℕ) (b : Book) (e : Exchange) (room′ : List ℕ) → Sim room b e room′ → length (hashInput (b .fields)) ≤ roomLeast
 unfolding hashInput field
 most-sim room b e room′ (live s x y) = total s
-most-sim room b e room′ (dead n x f y w z) = rw f zero-le
+most-sim room b e room′ (dead n x f y w v z) = rw f zero-le
 
 k-sim : (room : List ℕ) (b : Book) (e : Exchange) (room′ : List ℕ) → Sim room b e room′ → e .k ≡ kRecord (b .fields .k)
 k-sim room b e room′ (live s x y) = ap (λ (z : Exchange). z .k) x
-k-sim room b e room′ (dead n x f y w z) = rw f w
+k-sim room b e room′ (dead n x f y w v z) = rw f w
+
+h-sim : (room : List ℕ) (b : Book) (e : Exchange) (room′ : List ℕ) → Sim room b e room′ → e .h ≡ hTold b
+unfolding hTold
+h-sim room b e room′ (live s x y) = ap (λ (z : Exchange). z .h) x
+h-sim room b e room′ (dead n x f y w v z) = rw f v
 
 -- ---- the start
 
@@ -361,7 +391,7 @@ role-is role h = go (eqb role 1) refl
 
 -- the accepted start's exchange and room
 pub freshly : ℕ → ℕ → List ℕ → List ℕ → List ℕ → List ℕ → Exchange
-freshly role m vc vs ic is = record { stage = Started; role = role; method = m; lens = lengthsIn (fieldsOf vc vs ic is [] [] [] []); k = zeros kSize }
+freshly role m vc vs ic is = record { stage = Started; role = role; method = m; lens = lengthsIn (fieldsOf vc vs ic is [] [] [] []); k = zeros kSize; h = zeros hSize }
 
 hash-start : (vc vs ic is : List ℕ) → field vc ++ field vs ++ field ic ++ field is ≡ hashInput (fieldsOf vc vs ic is [] [] [] [])
 unfolding hashInput field
@@ -369,14 +399,14 @@ hash-start vc vs ic is = simp append-nil
 
 start-sim : (role m : ℕ) (vc vs ic is room : List ℕ) → startCause role m vc vs ic is (length room) ≡ 0 →
     (roomLeast ≤ length room) × Sim room (opened role m vc vs ic is) (freshly role m vc vs ic is) (onto room (field vc ++ field vs ++ field ic ++ field is))
-unfolding opened freshly
+unfolding opened freshly hTold
 start-sim role m vc vs ic is room z =
     let a = start-known role m vc vs ic is (length room) z in
     let h = ap (onto room) (hash-start vc vs ic is) in (
       a .1,
       ⊎-elim
-          (λ (e : role ≡ 1). rw e (live (client0 (a .2)) (ap (λ (k : List ℕ). record { stage = Started; role = 1; method = m; lens = lengthsIn (fieldsOf vc vs ic is [] [] [] []); k = k }) no-k) h))
-          (λ (e : role ≡ 2). rw e (live (server0 (a .2)) (ap (λ (k : List ℕ). record { stage = Started; role = 2; method = m; lens = lengthsIn (fieldsOf vc vs ic is [] [] [] []); k = k }) no-k) h))
+          (λ (e : role ≡ 1). rw e (live (client0 (a .2)) (ap (λ (k : List ℕ). record { stage = Started; role = 1; method = m; lens = lengthsIn (fieldsOf vc vs ic is [] [] [] []); k = k; h = zeros hSize }) no-k) h))
+          (λ (e : role ≡ 2). rw e (live (server0 (a .2)) (ap (λ (k : List ℕ). record { stage = Started; role = 2; method = m; lens = lengthsIn (fieldsOf vc vs ic is [] [] [] []); k = k; h = zeros hSize }) no-k) h))
           (role-is role (a .0)),
     )
 
@@ -417,6 +447,7 @@ held role m vc vs ic is room z calls =
       room-is = room-sim _ _ _ _ (t .2);
       fields-most = most-sim _ _ _ _ (t .2);
       k-is = k-sim _ _ _ _ (t .2);
+      h-is = h-sim _ _ _ _ (t .2);
     }
 
 -- ---- for the crate demand
@@ -428,7 +459,7 @@ start-zero role m vc vs ic is room e = by-test (eqb (startCause role m vc vs ic 
   where
     by-test : (t : Bool) → eqb (startCause role m vc vs ic is room) 0 ≡ t
         → cond {A = Step} t
-        (record { number = 0; count = 0; second = 0; exchange = record { stage = Started; role = role; method = m; lens = lengthsIn (fieldsOf vc vs ic is [] [] [] []); k = zeros kSize } })
+        (record { number = 0; count = 0; second = 0; exchange = record { stage = Started; role = role; method = m; lens = lengthsIn (fieldsOf vc vs ic is [] [] [] []); k = zeros kSize; h = zeros hSize } })
         (record { number = startCause role m vc vs ic is room; count = 0; second = 0; exchange = ended (startCause role m vc vs ic is room) 0 0 }) .number ≡ 0
         → startCause role m vc vs ic is room ≡ 0
     by-test true p q = eqb-true (startCause role m vc vs ic is room) 0 p

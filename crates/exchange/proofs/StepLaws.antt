@@ -42,27 +42,27 @@ module _ (e : Exchange) (room : List ℕ) (q : Call) where
       let z : number e room q ≡ 0 → ⊥ = λ y. h (m ∙ y) in
       let c = kind-same (number e room q) (countOf e room q) 0 z in
       let d = kind-same (number e room q) (secondOf e q) 0 z in
-      let x : byKind (kind n) e e (ended n (e .role) (e .method)) ≡ byKind (kind (number e room q)) (taken e q) e (ended (number e room q) (e .role) (e .method)) =
+      let x : byKind (kind n) e e (ended n (e .role) (e .method)) ≡ byKind (kind (number e room q)) (taken e room q) e (ended (number e room q) (e .role) (e .method)) =
       (λ i. byKind (kind (m i)) e e (ended (m i) (e .role) (e .method)))
-      ∙ kind-other (number e room q) e (taken e q) e (ended (number e room q) (e .role) (e .method)) z in (
+      ∙ kind-other (number e room q) e (taken e room q) e (ended (number e room q) (e .role) (e .method)) z in (
         (λ i. record { number = m i; count = sym c i; second = sym d i; exchange = x i }),
         (λ i. byKind (kind (m i)) room room (zeros (length room))) ∙ kind-other (number e room q) room (filled e room q) room (zeros (length room)) z,
       )
 
   -- an accepted step's
   pub step-accepted : number e room q ≡ 0
-      → (_≡_ {A = Step} (record { number = 0; count = countOf e room q; second = secondOf e q; exchange = taken e q }) (answered e room q))
+      → (_≡_ {A = Step} (record { number = 0; count = countOf e room q; second = secondOf e q; exchange = taken e room q }) (answered e room q))
       × (filled e room q ≡ roomAfter e room q)
   unfolding answered exchangeAfter roomAfter kind
   step-accepted z = (rw z, rw z)
 
-  -- H: zeros on a refusal, else the hash of what is counted
+  -- H: zeros on a refusal, else that of the exchange
   pub handed-refused : ¬ (number e room q ≡ 0) → zeros hSize ≡ handedH e room q
   unfolding handedH
   handed-refused h = sym (kind-same (number e room q) _ (zeros hSize) h)
 
   pub handed-accepted : number e room q ≡ 0
-      → hOf (e .method) (take (countOf e room q) (filled e room q)) ≡ handedH e room q
+      → taken e room q .h ≡ handedH e room q
   unfolding handedH kind
   handed-accepted z = rw z
 

@@ -12,7 +12,7 @@ use Rattle.exchange.specs.Numbers.{isFault, Kind, accepted, refused, fau
 use Rattle.exchange.specs.Causes.{startCause}
 use Rattle.exchange.specs.Record.{ended}
 use Rattle.exchange.specs.Steps.{Call, number, taken, exchangeAfter, roomAfter, started, startedRoom}
-use Rattle.exchange.specs.Book.{Book, opened, moved, dropped, noted, firstCause, lastBook}
+use Rattle.exchange.specs.Book.{Book, opened, moved, dropped, noted, firstCause, hTold, lastBook}
 use Rattle.exchange.specs.Demand.{numbersOf, lastExchange}
 use Rattle.exchange.specs.ExchangeTold.{exchangeOf, firstFault, exchangeTold}
 use Rattle.exchange.specs.declared.Stage.the-variants.{Failed}
@@ -104,7 +104,7 @@ module _ (l : ℕ) (b : Book) (e : Exchange) (room : List ℕ) (q : Call) (qs : 
       let r = ap (λ (z : Exchange). z .role) x in
       let p = ap (λ (z : Exchange). z .method) x in
       let v : exchangeAfter e room q ≡ ended m (b .role) (b .method) =
-      ap (λ (k : Kind). byKind k (taken e q) e (ended m (e .role) (e .method))) c ∙ (λ i. ended m (r i) (p i)) in
+      ap (λ (k : Kind). byKind k (taken e room q) e (ended m (e .role) (e .method))) c ∙ (λ i. ended m (r i) (p i)) in
       let d : noted l b q ≡ dropped b = ap (λ (k : Kind). byKind k (moved b q) b (dropped b)) (sym (ap kind n) ∙ c) in
       let g = ap (λ (z : Exchange). z .stage) v ∙ ended-stage m (b .role) (b .method) in
       dead-last (exchangeAfter e room q) (roomAfter e room q) m qs g
@@ -114,10 +114,10 @@ module _ (l : ℕ) (b : Book) (e : Exchange) (room : List ℕ) (q : Call) (qs : 
 
 told-run : (room : List ℕ) → roomLeast ≤ length room → (b : Book) (e : Exchange) (room′ : List ℕ) (qs : List Call) → Sim room b e room′ → b .faulted ≡ false
     → lastExchange e room′ qs ≡ exchangeTold (lastBook (length room) b qs) (numbersOf e room′ qs)
-unfolding exchangeTold
+unfolding exchangeTold hTold
 told-run room h b e room′ [] (live s x y) f = rw f x
-told-run room h b e room′ [] (dead n x g y w z) f = absurd (false≢true (sym f ∙ x))
-told-run room h b e room′ (q ∷ qs) (dead n x g y w z) f = absurd (false≢true (sym f ∙ x))
+told-run room h b e room′ [] (dead n x g y w v z) f = absurd (false≢true (sym f ∙ x))
+told-run room h b e room′ (q ∷ qs) (dead n x g y w v z) f = absurd (false≢true (sym f ∙ x))
 told-run room h b e room′ (q ∷ qs) (live s x y) f =
     let a = step room b e room′ q h (live s x y) in
     one-call (length room) b e room′ q qs x f (a .0) (told-run room h (noted (length room) b q) (exchangeAfter e room′ q) (roomAfter e room′ q) qs (a .1)) (kind (number e room′ q)) refl

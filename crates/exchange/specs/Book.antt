@@ -5,16 +5,14 @@ use mathlib.Core.List.{List, [], _∷_, _++_}
 use mathlib.Core.Bool.{Bool, true, false, cond, not, _&&_}
 use lib.ListN.{length, getD}
 use lib.Dec.{ltb, eqb}
-use Rattle.limits.specs.Limits.{roomLeast, client, server}
+use Rattle.limits.specs.Limits.{hSize, roomLeast, client, server}
 use Rattle.buffers.specs.Bytes.{zeros, onto}
 use Rattle.wire.specs.Causes.{causeIf, causeUnless}
 use Rattle.messages.specs.Messages.{fieldOf}
 use Rattle.transcript.specs.Fields.{field}
-use Rattle.exchange.specs.Causes.{kOf}
+use Rattle.exchange.specs.Causes.{kOf, hOf}
 use Rattle.exchange.specs.Numbers.{kind, byKind}
 use Rattle.exchange.specs.Steps.{Call, ownC, init, reply, secret, sign, verdict, stepNo, fedCause}
-use Rattle.exchange.specs.declared.Stage.{Stage}
-use Rattle.exchange.specs.declared.Stage.the-variants.{Started, CSent, InitRead, ReplyRead, SecretDone, Complete, Failed}
 
 -- the hash input's fields; a missing one is empty, and K stands in its form
 pub record Fields : Type 0 where
@@ -102,15 +100,13 @@ hashInput f =
 unfoldable pub roomTold : Book → List ℕ → List ℕ
 roomTold b room = cond (b .faulted) (zeros (length room)) (onto room (hashInput (b .fields)))
 
--- a record says that it is complete
-abbrev pub isComplete : Stage → Bool
-isComplete Started = false
-isComplete CSent = false
-isComplete InitRead = false
-isComplete ReplyRead = false
-isComplete SecretDone = false
-isComplete Complete = true
-isComplete (Failed n) = false
+-- H that the book tells, 64 bytes: once K is among its fields, the method's hash of the hash input; zeros until then
+abbrev pub hOnce : ℕ → List ℕ → List ℕ → List ℕ
+hOnce m [] input = zeros hSize
+hOnce m (b ∷ k) input = hOf m input
+
+unfoldable pub hTold : Book → List ℕ
+hTold b = hOnce (b .method) (b .fields .k) (hashInput (b .fields))
 
 -- a list of calls, told to the book
 abbrev pub causes : ℕ → Book → List Call → List ℕ

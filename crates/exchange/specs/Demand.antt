@@ -6,8 +6,9 @@ use mathlib.Core.Bool.{true}
 use lib.ListN.{length}
 use Rattle.limits.specs.Limits.{roomLeast}
 use Rattle.exchange.specs.Numbers.{isFault}
+use Rattle.exchange.specs.Record.{isComplete}
 use Rattle.exchange.specs.Steps.{Call, number, kRecord, exchangeAfter, roomAfter}
-use Rattle.exchange.specs.Book.{Book, causes, lastBook, isComplete, hasAll, roomTold, hashInput}
+use Rattle.exchange.specs.Book.{Book, causes, lastBook, hasAll, roomTold, hTold, hashInput}
 use Rattle.exchange.specs.declared.Exchange.{Exchange}
 
 -- a list of calls, each with the exchange and the room as the last left them
@@ -54,3 +55,5 @@ pub record Held (b₀ : Book) (room : List ℕ) (calls : List Call) (numbers : L
   pub fields-most : length (hashInput (lastBook (length room) b₀ calls .fields)) ≤ roomLeast
   -- the K record is the book's K, zeros after it: all zeros until the secret step, and after a fault
   pub k-is : e .k ≡ kRecord (lastBook (length room) b₀ calls .fields .k)
+  -- H in the record is the book's: of a complete exchange the hash of the book's hash input; all zeros until the secret step, and after a fault
+  pub h-is : e .h ≡ hTold (lastBook (length room) b₀ calls)

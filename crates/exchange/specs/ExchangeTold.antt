@@ -8,7 +8,7 @@ use Rattle.limits.specs.Limits.{client}
 use Rattle.exchange.specs.Numbers.{isFault}
 use Rattle.exchange.specs.Record.{ended}
 use Rattle.exchange.specs.Steps.{kRecord}
-use Rattle.exchange.specs.Book.{Fields, Book}
+use Rattle.exchange.specs.Book.{Fields, Book, hTold}
 use Rattle.exchange.specs.declared.Stage.{Stage}
 use Rattle.exchange.specs.declared.Stage.the-variants.{Started, CSent, InitRead, ReplyRead, SecretDone, Complete}
 use Rattle.exchange.specs.declared.Lengths.{Lengths}
@@ -22,7 +22,7 @@ stagesOf role = cond (eqb role client) (Started ∷ CSent ∷ ReplyRead ∷ Secr
 abbrev pub lengthsIn : Fields → Lengths
 lengthsIn f = record { vc = length (f .vc); vs = length (f .vs); ic = length (f .ic); is = length (f .is); ks = length (f .ks); c = length (f .c); s = length (f .s) }
 
--- without a fault: stage, lengths and K by the steps done and the fields
+-- without a fault: stage, lengths, K and H by the steps done and the fields
 abbrev pub exchangeOf : Book → Exchange
 exchangeOf b = record {
   stage = getD (stagesOf (b .role)) (b .done) Complete;
@@ -30,6 +30,7 @@ exchangeOf b = record {
   method = b .method;
   lens = lengthsIn (b .fields);
   k = kRecord (b .fields .k);
+  h = hTold b;
 }
 
 -- the first peer's fault among the numbers that the calls answered; 0 with none

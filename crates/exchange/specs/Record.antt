@@ -3,7 +3,7 @@ use Prim.Native.Nat.{ℕ, _+_}
 use mathlib.Core.List.{List}
 use mathlib.Core.Bool.{Bool, true, false, cond, _&&_}
 use lib.Dec.{leb, eqb}
-use Rattle.limits.specs.Limits.{versionMost, kexinitMost, kSize, client, server}
+use Rattle.limits.specs.Limits.{versionMost, kexinitMost, kSize, hSize, client, server}
 use Rattle.limits.specs.Range.{within}
 use Rattle.buffers.specs.Bytes.{zeros}
 use Rattle.wire.specs.Strings.{number32}
@@ -12,7 +12,7 @@ use Rattle.methods.specs.Form.{lengthFits}
 use Rattle.methods.specs.declared.KForm.{KForm}
 use Rattle.methods.specs.declared.KForm.the-variants.{Mpint, Digest}
 use Rattle.methods.specs.declared.Method.{Method}
-use Rattle.exchange.specs.Causes.{methodOk, blobOk}
+use Rattle.exchange.specs.Causes.{methodOk, roleOk, blobOk}
 use Rattle.exchange.specs.declared.Stage.{Stage}
 use Rattle.exchange.specs.declared.Stage.the-variants.{Started, CSent, InitRead, ReplyRead, SecretDone, Complete, Failed}
 use Rattle.exchange.specs.declared.Lengths.{Lengths}
@@ -22,9 +22,9 @@ use Rattle.exchange.specs.declared.Exchange.{Exchange}
 abbrev pub noLengths : Lengths
 noLengths = record { vc = 0; vs = 0; ic = 0; is = 0; ks = 0; c = 0; s = 0 }
 
--- an exchange that a number ended: no lengths, no K, its role and method kept; a refused start's role and method are 0
+-- an exchange that a number ended: no lengths, no K, no H, its role and method kept; a refused start's role and method are 0
 unfoldable pub ended : ℕ → ℕ → ℕ → Exchange
-ended n role m = record { stage = Failed n; role = role; method = m; lens = noLengths; k = zeros kSize }
+ended n role m = record { stage = Failed n; role = role; method = m; lens = noLengths; k = zeros kSize; h = zeros hSize }
 
 -- the step that comes next in a role: 1 own C, 2 INIT, 3 REPLY, 4 secret, 5 signature, 6 verdict, 0 none
 abbrev pub clientNext : Stage → ℕ
@@ -99,8 +99,24 @@ kBodyFits Digest r n = eqb n (r .«digest_len»)
 unfoldable pub kFits : Method → Stage → List ℕ → Bool
 kFits r stage k = cond (hasK stage) (kBodyFits (r .«k_form») r (number32 k)) true
 
--- a step is due: it is the role's next, the method is one, and lengths and K fit
+-- what is recorded fits the stage: the method is one, and lengths and K's length are as it has them. H, and K behind its length, are not judged
+unfoldable pub recordFits : Exchange → Bool
+recordFits e = methodOk (e .method) && lengthsFit (rowOf (e .method)) (e .stage) (e .lens) && kFits (rowOf (e .method)) (e .stage) (e .k)
+
+-- a step is due: it is the role's next, and the record fits
 unfoldable pub due : ℕ → Exchange → Bool
-due n e =
-    eqb (nextStep (e .role) (e .stage)) n && methodOk (e .method)
-    && lengthsFit (rowOf (e .method)) (e .stage) (e .lens) && kFits (rowOf (e .method)) (e .stage) (e .k)
+due n e = eqb (nextStep (e .role) (e .stage)) n && recordFits e
+
+-- a record says that it is complete
+abbrev pub isComplete : Stage → Bool
+isComplete Started = false
+isComplete CSent = false
+isComplete InitRead = false
+isComplete ReplyRead = false
+isComplete SecretDone = false
+isComplete Complete = true
+isComplete (Failed n) = false
+
+-- it says so, its role is one, and the record fits
+unfoldable pub completed : Exchange → Bool
+completed e = isComplete (e .stage) && roleOk (e .role) && recordFits e

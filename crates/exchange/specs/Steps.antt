@@ -108,26 +108,41 @@ withC l c = record { vc = l .vc; vs = l .vs; ic = l .ic; is = l .is; ks = l .ks;
 abbrev pub withS : Lengths → ℕ → ℕ → Lengths
 withS l ks s = record { vc = l .vc; vs = l .vs; ic = l .ic; is = l .is; ks = ks; c = l .c; s = s }
 
--- an exchange at another stage, with these lengths and this K record
-abbrev pub withStage : Exchange → Stage → Lengths → List ℕ → Exchange
-withStage e stage lens k = record { stage = stage; role = e .role; method = e .method; lens = lens; k = k }
+-- a secret step adds a server's own
+abbrev pub withOwn : ℕ → Lengths → ℕ → ℕ → Lengths
+withOwn role l ks s = cond (eqb role server) (withS l ks s) l
+
+-- an exchange at another stage, with these lengths; with this K record and this H too
+abbrev pub withStage : Exchange → Stage → Lengths → Exchange
+withStage e stage lens = record { stage = stage; role = e .role; method = e .method; lens = lens; k = e .k; h = e .h }
+
+abbrev pub withSecret : Exchange → Lengths → List ℕ → List ℕ → Exchange
+withSecret e lens k h = record { stage = SecretDone; role = e .role; method = e .method; lens = lens; k = k; h = h }
 
 -- the K record of K's bytes
 unfoldable pub kRecord : List ℕ → List ℕ
 kRecord k = onto (zeros kSize) k
 
+-- the hash input's length, by the recorded lengths and K; and H, the method's hash of so many of the room's first bytes, as they stand after the step
+abbrev pub inputLength : Exchange → List ℕ → List ℕ → List ℕ → List ℕ → ℕ
+inputLength e x kPq ks s = fieldsEnd (withOwn (e .role) (e .lens) (length ks) (length s)) + length (kOf (e .method) x kPq)
+
+abbrev pub inputHash : Exchange → List ℕ → List ℕ → List ℕ → List ℕ → List ℕ → List ℕ
+inputHash e room x kPq ks s =
+    hOf (e .method) (take (inputLength e x kPq ks s) (secretRoom (e .role) (e .lens) room ks s (kOf (e .method) x kPq)))
+
 -- after an accepted call
-unfoldable pub taken : Exchange → Call → Exchange
-taken e (ownC c out) = withStage e CSent (withC (e .lens) (length c)) (e .k)
-taken e (init p) = withStage e InitRead (withC (e .lens) (length (fieldOf p 0))) (e .k)
-taken e (reply p) = withStage e ReplyRead (withS (e .lens) (length (fieldOf p 0)) (length (fieldOf p 1))) (e .k)
-taken e (secret cl x kem kPq ks s) =
-    withStage e SecretDone (cond (eqb (e .role) server) (withS (e .lens) (length ks) (length s)) (e .lens)) (kRecord (kOf (e .method) x kPq))
-taken e (sign g out kOut) = withStage e Complete (e .lens) (e .k)
-taken e (verdict a b kOut) = withStage e Complete (e .lens) (e .k)
+unfoldable pub taken : Exchange → List ℕ → Call → Exchange
+taken e room (ownC c out) = withStage e CSent (withC (e .lens) (length c))
+taken e room (init p) = withStage e InitRead (withC (e .lens) (length (fieldOf p 0)))
+taken e room (reply p) = withStage e ReplyRead (withS (e .lens) (length (fieldOf p 0)) (length (fieldOf p 1)))
+taken e room (secret cl x kem kPq ks s) =
+    withSecret e (withOwn (e .role) (e .lens) (length ks) (length s)) (kRecord (kOf (e .method) x kPq)) (inputHash e room x kPq ks s)
+taken e room (sign g out kOut) = withStage e Complete (e .lens)
+taken e room (verdict a b kOut) = withStage e Complete (e .lens)
 
 unfoldable pub exchangeAfter : Exchange → List ℕ → Call → Exchange
-exchangeAfter e room q = byKind (kind (number e room q)) (taken e q) e (ended (number e room q) (e .role) (e .method))
+exchangeAfter e room q = byKind (kind (number e room q)) (taken e room q) e (ended (number e room q) (e .role) (e .method))
 
 -- a peer fault fills the whole room with zeros
 unfoldable pub roomAfter : Exchange → List ℕ → Call → List ℕ
@@ -144,7 +159,7 @@ unfoldable pub countOf : Exchange → List ℕ → Call → ℕ
 countOf e room (ownC c out) = length (initBytes c)
 countOf e room (init p) = 0
 countOf e room (reply p) = 0
-countOf e room (secret cl x kem kPq ks s) = fieldsEnd (taken e (secret cl x kem kPq ks s) .lens) + length (kOf (e .method) x kPq)
+countOf e room (secret cl x kem kPq ks s) = inputLength e x kPq ks s
 countOf e room (sign g out kOut) = length (replyOf e room g)
 countOf e room (verdict a b kOut) = kLength (e .k)
 
@@ -165,12 +180,11 @@ answered e room q = record {
   exchange = exchangeAfter e room q;
 }
 
--- H as it is handed out, 64 bytes, zeros behind the digest: the method's hash of the room's first bytes, as many as are counted, as they
--- stand after the step; zeros on a refusal
+-- H as it is handed out: the H that the exchange now has; zeros on a refusal
 unfoldable pub handedH : Exchange → List ℕ → Call → List ℕ
 handedH e room q =
     byKind (kind (number e room q))
-    (hOf (e .method) (take (countOf e room q) (filled e room q)))
+    (taken e room q .h)
     (zeros hSize)
     (zeros hSize)
 
@@ -203,7 +217,7 @@ lengthsOf vc vs ic is = record { vc = length vc; vs = length vs; ic = length ic;
 unfoldable pub started : ℕ → ℕ → List ℕ → List ℕ → List ℕ → List ℕ → ℕ → Step
 started role m vc vs ic is room =
     cond (eqb (startCause role m vc vs ic is room) 0)
-    (record { number = 0; count = 0; second = 0; exchange = record { stage = Started; role = role; method = m; lens = lengthsOf vc vs ic is; k = zeros kSize } })
+    (record { number = 0; count = 0; second = 0; exchange = record { stage = Started; role = role; method = m; lens = lengthsOf vc vs ic is; k = zeros kSize; h = zeros hSize } })
     (record { number = startCause role m vc vs ic is room; count = 0; second = 0; exchange = ended (startCause role m vc vs ic is room) 0 0 })
 
 unfoldable pub startedRoom : ℕ → ℕ → List ℕ → List ℕ → List ℕ → List ℕ → List ℕ → List ℕ

@@ -30,13 +30,14 @@ pub struct Lengths {
     pub s: usize,
 }
 
-// An exchange. Role 1 is the client's, 2 the server's. The K record is all zeros until the secret step.
+// An exchange. Role 1 is the client's, 2 the server's. The K record and H are all zeros until the secret step, and after a peer's fault.
 pub struct Exchange {
     pub stage: Stage,
     pub role: u8,
     pub method: u8,
     pub lens: Lengths,
     pub k: [u8; limits::K_SIZE],
+    pub h: [u8; limits::H_SIZE],
 }
 
 // What the classical primitive gave: nothing, or so many bytes, lent beside it.

@@ -23,8 +23,8 @@ bytes-after : (x : Exchange) (room : List ℕ) (q : Call) → bytesAfter (encode
 unfolding bytesAfter exchangeAfter
 bytes-after x room q = by-kind (kind (number x room q))
   where
-    by-kind : (k : Kind) → byKind k (encoded (taken x q)) (encoded x) (encoded (ended (number x room q) (x .role) (x .method)))
-        ≡ encoded (byKind k (taken x q) x (ended (number x room q) (x .role) (x .method)))
+    by-kind : (k : Kind) → byKind k (encoded (taken x room q)) (encoded x) (encoded (ended (number x room q) (x .role) (x .method)))
+        ≡ encoded (byKind k (taken x room q) x (ended (number x room q) (x .role) (x .method)))
     by-kind accepted = refl
     by-kind refused = refl
     by-kind fault = refl

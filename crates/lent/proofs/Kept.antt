@@ -1,29 +1,32 @@
 -- An exchange that the lent bytes hold stays one through every step, so that the next call finds what the last one answered. Assumes nothing.
-use Prim.Native.Nat.{ℕ, _<_}
+use Prim.Native.Nat.{ℕ, _-_, _<_}
 use mathlib.Core.Path.{_≡_, refl, sym, ap, _∙_}
 use mathlib.Core.List.{List}
-use mathlib.Core.Bool.{Bool, true, false, cond}
+use mathlib.Core.Bool.{Bool, true, false, cond, _&&_}
 use native.Mathlib.Omega.{arith}
-use lib.ListN.{length, length-drop}
+use lib.ListN.{length, drop, length-append, length-drop, length-take, length-replicate}
 use lib.Dec.{eqb}
 use borrow.Author.Tests.{eqb-true}
-use Rattle.limits.specs.Limits.{versionMost, kexinitMost, blobMost, kSize, server}
+use Rattle.limits.specs.Limits.{versionMost, kexinitMost, blobMost, kSize, hSize, server}
+use Rattle.limits.proofs.BoolLaws.{and-false}
 use Rattle.limits.proofs.RangeLaws.{within-most}
 use Rattle.buffers.specs.Bytes.{Bytes, zeros}
 use Rattle.buffers.proofs.ByteLaws.{length-onto}
 use Rattle.wire.proofs.CauseLaws.{unless-fails}
+use Rattle.sha_words.specs.Message.{sha2, sized}
+use Rattle.sha_words.proofs.DigestLaws.{length-sha2}
 use Rattle.methods.specs.Rows.{rowOf}
 use Rattle.methods.proofs.FormLaws.{length-most}
 use Rattle.messages.specs.Messages.{fieldOf}
-use Rattle.exchange.specs.Causes.{methodOk, ownOk, startCause, kOf}
-use Rattle.exchange.specs.Record.{noLengths, ended, due}
+use Rattle.exchange.specs.Causes.{methodOk, roleOk, ownOk, startCause, kOf, hOf}
+use Rattle.exchange.specs.Record.{noLengths, ended, nextStep, recordFits, due, isComplete, completed}
 use Rattle.exchange.specs.Numbers.{isFault, accepted, refused, fault, kind, byKind}
 use Rattle.exchange.specs.Steps.{Call, ownC, init, reply, secret, sign, verdict, stepNo, fedCause, stepNumber, number, withC, withS, kRecord, taken, exchangeAfter, started}
 use Rattle.exchange.specs.declared.Lengths.{Lengths}
 use Rattle.exchange.specs.declared.Exchange.{Exchange}
 use Rattle.exchange.proofs.CauseFacts.{FormedC, FormedS, Blob, method-row, start-known, own-c-formed, init-formed, reply-formed, secret-known, own-formed, key-sized}
 use Rattle.exchange.proofs.StepLaws.{step-known, bounded, small}
-use Rattle.exchange.proofs.DueLaws.{due-known}
+use Rattle.exchange.proofs.DueLaws.{recorded}
 use Rattle.stored.specs.Stored.{encoded, fits, decoded, byFit}
 use Rattle.stored.proofs.StoredLaws.{fits-known}
 use Rattle.stored.proofs.RoundTrip.{Short, decoded-encoded, encoded-fits, decoded-short}
@@ -32,6 +35,7 @@ use Rattle.stored.proofs.RoundTrip.{Short, decoded-encoded, encoded-fits, decod
 pub record Storable (x : Exchange) : Type 0 where
   pub short : Short (x .lens)
   pub k-size : length (x .k) ≡ kSize
+  pub h-size : length (x .h) ≡ hSize
 
 -- ---- lengths that a step brings
 
@@ -50,10 +54,18 @@ s-short m s o z = let h = length-most (rowOf m .s) (length s) (z .len) in omega 
 blob-short : (ks : List ℕ) → Blob ks → length ks < 65536
 blob-short ks z = let h = within-most 1 blobMost (length ks) (z .ok) in omega arith
 
+-- H has 64 bytes
+pub length-h : (m : ℕ) (input : List ℕ) → methodOk m ≡ true → length (hOf m input) ≡ hSize
+unfolding sized
+length-h m input o =
+    let d = sha2 (rowOf m .«digest_len») input in
+    let l = length-sha2 (rowOf m .«digest_len») input (method-row m o .digest-kind) in
+    length-append d (zeros (hSize - length d)) ∙ omega (arith, l, length-replicate {A = ℕ} (hSize - length d) 0, method-row m o .digest-most)
+
 -- ---- an accepted step
 
-module _ (e : Exchange) (o : methodOk (e .method) ≡ true) where
-  taken-short : (q : Call) → fedCause (e .role) (e .method) q ≡ 0 → Short (e .lens) → Short (taken e q .lens)
+module _ (e : Exchange) (room : List ℕ) (o : methodOk (e .method) ≡ true) where
+  taken-short : (q : Call) → fedCause (e .role) (e .method) q ≡ 0 → Short (e .lens) → Short (taken e room q .lens)
   unfolding taken fedCause
   taken-short (ownC c out) z h = short-c (e .lens) (length c) h (c-short (e .method) c o (own-c-formed (e .method) c out z))
   taken-short (init p) z h = short-c (e .lens) (length (fieldOf p 0)) h (c-short (e .method) (fieldOf p 0) o (init-formed (e .method) p z .1))
@@ -71,7 +83,7 @@ module _ (e : Exchange) (o : methodOk (e .method) ≡ true) where
   taken-short (sign g out kOut) z h = h
   taken-short (verdict a b kOut) z h = h
 
-  taken-k : (q : Call) → fedCause (e .role) (e .method) q ≡ 0 → length (e .k) ≡ kSize → length (taken e q .k) ≡ kSize
+  taken-k : (q : Call) → fedCause (e .role) (e .method) q ≡ 0 → length (e .k) ≡ kSize → length (taken e room q .k) ≡ kSize
   unfolding taken fedCause kRecord
   taken-k (ownC c out) z h = h
   taken-k (init p) z h = h
@@ -83,6 +95,15 @@ module _ (e : Exchange) (o : methodOk (e .method) ≡ true) where
   taken-k (sign g out kOut) z h = h
   taken-k (verdict a b kOut) z h = h
 
+  taken-h : (q : Call) → length (e .h) ≡ hSize → length (taken e room q .h) ≡ hSize
+  unfolding taken
+  taken-h (ownC c out) h = h
+  taken-h (init p) h = h
+  taken-h (reply p) h = h
+  taken-h (secret cl x kem kPq ks s) h = length-h (e .method) _ o
+  taken-h (sign g out kOut) h = h
+  taken-h (verdict a b kOut) h = h
+
 -- ---- every step, and the start
 
 none-short : Short noLengths
@@ -90,17 +111,17 @@ none-short = record { vc = omega arith; vs = omega arith; ic = omega arith; is =
 
 pub ended-storable : (n role m : ℕ) → Storable (ended n role m)
 unfolding ended
-ended-storable n role m = record { short = none-short; k-size = refl }
+ended-storable n role m = record { short = none-short; k-size = refl; h-size = refl }
 
 pub step-storable : (e : Exchange) (room : List ℕ) (q : Call) → Storable e → Storable (exchangeAfter e room q)
 unfolding exchangeAfter kind
 step-storable e room q h = by-tests (eqb (number e room q) 0) (isFault (number e room q)) refl
   where
     by-tests : (a b : Bool) → eqb (number e room q) 0 ≡ a
-        → Storable (byKind (cond a accepted (cond b fault refused)) (taken e q) e (ended (number e room q) (e .role) (e .method)))
+        → Storable (byKind (cond a accepted (cond b fault refused)) (taken e room q) e (ended (number e room q) (e .role) (e .method)))
     by-tests true b w =
         let k = step-known e room q (eqb-true (number e room q) 0 w) in
-        record { short = taken-short e (k .0 .method-ok) q (k .2) (h .short); k-size = taken-k e (k .0 .method-ok) q (k .2) (h .k-size) }
+        record { short = taken-short e room (k .0 .method-ok) q (k .2) (h .short); k-size = taken-k e room (k .0 .method-ok) q (k .2) (h .k-size); h-size = taken-h e room (k .0 .method-ok) q (h .h-size) }
     by-tests false true w = ended-storable (number e room q) (e .role) (e .method)
     by-tests false false w = h
 
@@ -118,6 +139,7 @@ start-storable role m vc vs ic is room = by-test (eqb (startCause role m vc vs i
         rw w (record {
           short = record { vc = omega arith; vs = omega arith; ic = omega arith; is = omega arith; ks = omega arith; c = omega arith; s = omega arith };
           k-size = refl;
+          h-size = refl;
         })
     by-test false w = rw w (ended-storable (startCause role m vc vs ic is room) 0 0)
 
@@ -128,21 +150,21 @@ pub decoded-storable : (b : List ℕ) → Bytes b → fits b ≡ true → Storab
 unfolding decoded
 decoded-storable b y h =
     let n = fits-known b h .0 in
-    record { short = decoded-short b y; k-size = omega (arith, length-drop 19 b) }
+    record { short = decoded-short b y; k-size = omega (arith, length-take kSize (drop 19 b), length-drop 19 b); h-size = omega (arith, length-drop 90 b) }
 
 -- on an exchange's bytes an export answers and leaves what the step does by value
 pub lent-is-step : {A : Type 0} (F : Exchange → A) (old : A) (x : Exchange) → Storable x → byFit (encoded x) (F (decoded (encoded x))) old ≡ F x
 unfolding byFit
-lent-is-step F old x h = rw (encoded-fits x (h .k-size), decoded-encoded x (h .short))
+lent-is-step F old x h = rw (encoded-fits x (h .k-size) (h .h-size), decoded-encoded x (h .short) (h .k-size))
 
--- no step is due on an exchange that the bytes cannot hold for a length
-pub long-not-due : (n : ℕ) (e : Exchange) → ¬ Short (e .lens) → due n e ≡ false
-long-not-due n e h = by-test (due n e) refl
+-- an exchange that the bytes cannot hold for a length does not fit: no step is due on it, and it is not complete
+long-not-fits : (e : Exchange) → ¬ Short (e .lens) → recordFits e ≡ false
+long-not-fits e h = by-test (recordFits e) refl
   where
-    by-test : (t : Bool) → due n e ≡ t → t ≡ false
+    by-test : (t : Bool) → recordFits e ≡ t → t ≡ false
     by-test false w = refl
     by-test true w =
-        let d = due-known n e w in
+        let d = recorded e w in
         let b = small (rowOf (e .method)) (e .lens) (method-row (e .method) (d .method-ok)) (bounded (rowOf (e .method)) (e .stage) (e .lens) (d .lengths)) in
         absurd (h (record {
           vc = omega (arith, b .vc);
@@ -153,6 +175,14 @@ long-not-due n e h = by-test (due n e) refl
           c = omega (arith, b .c);
           s = omega (arith, b .s);
         }))
+
+pub long-not-due : (n : ℕ) (e : Exchange) → ¬ Short (e .lens) → due n e ≡ false
+unfolding due
+long-not-due n e h = rw (long-not-fits e h) (and-false (eqb (nextStep (e .role) (e .stage)) n))
+
+pub long-not-complete : (e : Exchange) → ¬ Short (e .lens) → completed e ≡ false
+unfolding completed
+long-not-complete e h = rw (long-not-fits e h) (and-false (isComplete (e .stage) && roleOk (e .role)))
 
 -- so it is answered 1 by every step: a host loses nothing
 pub long-refused : (e : Exchange) (room : List ℕ) (q : Call) → ¬ Short (e .lens) → number e room q ≡ 1

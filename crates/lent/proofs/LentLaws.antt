@@ -4,17 +4,18 @@ use mathlib.Core.Path.{_≡_, refl, sym, ap, _∙_}
 use mathlib.Core.List.{List, [], _∷_, _++_}
 use mathlib.Core.Bool.{Bool, true, false, cond}
 use native.Mathlib.Omega.{arith}
-use lib.ListN.{length, getD, set, drop, length-drop}
+use lib.ListN.{length, getD, set, take, drop, length-drop, length-take}
 use lib.Dec.{eqb}
-use Rattle.limits.specs.Limits.{kSize, exchangeSize}
+use Rattle.limits.specs.Limits.{kSize, hSize, exchangeSize}
 use Rattle.buffers.specs.Bytes.{zeros, onto, laid}
 use Rattle.wire.specs.Parts.{nothing}
 use Rattle.messages.specs.Messages.{fieldPart}
 use Rattle.exchange.specs.Numbers.{isFault, Kind, accepted, refused, kind, byKind}
 use Rattle.exchange.specs.Record.{noLengths, ended, nextStep}
-use Rattle.exchange.specs.Steps.{Call, ownC, init, reply, secret, sign, verdict, stepNo, fedCause, stepNumber, number, withC, withS, withStage, taken, filled, countOf, secondOf, answered, roomAfter, outputAfter, stepPart, refusedRoom, started, startedRoom}
+use Rattle.exchange.specs.Steps.{Call, ownC, init, reply, secret, sign, verdict, stepNo, fedCause, stepNumber, number, withC, withS, withStage, withSecret, taken, filled, countOf, secondOf, answered, roomAfter, outputAfter, stepPart, refusedRoom, started, startedRoom}
 use Rattle.exchange.specs.declared.Stage.{Stage}
 use Rattle.exchange.specs.declared.Stage.the-variants.{Started, CSent, InitRead, ReplyRead, SecretDone, Complete, Failed}
+use Rattle.exchange.specs.declared.Lengths.{Lengths}
 use Rattle.exchange.specs.declared.Exchange.{Exchange}
 use Rattle.exchange.specs.declared.Step.{Step}
 use Rattle.exchange.proofs.KindLaws.{kind-same, kind-fault, kind-other, kind-accepted}
@@ -23,7 +24,7 @@ use Rattle.stored.specs.Stored.{stageNumber, failNumber, encoded, fits, lengths
 use Rattle.changes.specs.Changes.{put16, putHead}
 use Rattle.stored.proofs.StoredLaws.{role-read, method-read, size-taken, size-left, fits-known, fit-taken}
 use Rattle.stored.proofs.RoundTrip.{stored-again}
-use Rattle.changes.proofs.ChangeLaws.{stage-put, c-put, s-put, k-put, head-put}
+use Rattle.changes.proofs.ChangeLaws.{stage-put, c-put, s-put, k-put, h-put, head-put}
 use Rattle.lent.specs.Lent.{left, placeOf, tells, toldSize, writes, outputsAfter, bytesAfter, stepLeft, untouched, lentCall, startLeft, lentStart, refusedBytes}
 
 -- ---- a refusal
@@ -85,19 +86,19 @@ module _ (b room : List ℕ) (q : Call) (outs : List (List ℕ)) where
           let d = decoded b in
           let z : ¬ (number d room q ≡ 0) = λ v. h (e ∙ v) in
           let s = size-taken b b (encoded (ended (number d room q) (d .role) (d .method))) (fits-known b w .0) in
-          let k = kind-other (number d room q) b (encoded (taken d q)) b (encoded (ended (number d room q) (d .role) (d .method))) z in
+          let k = kind-other (number d room q) b (encoded (taken d room q)) b (encoded (ended (number d room q) (d .role) (d .method))) z in
           let v = x ∙ ap (λ (m : ℕ). refusedBytes m b) e ∙ ap (λ (l : List ℕ). byKind (kind (number d room q)) b b l) (sym s) ∙ k in
           let u = y ∙ ap (λ (m : ℕ). refusedRoom m room) e ∙ kind-other (number d room q) room (filled d room q) room (zeros (length room)) z in
           λ i. left ((a ∙ e) i) (sym (tells-none d room q z) i) (v i) (u i) (sym (outputs-stay (number d room q) outs (writes d room q) z) i)
 
   -- an accepted call
   pub call-accepted : fits b ≡ true → number (decoded b) room q ≡ 0 → (told ex room′ : List ℕ) (outs′ : List (List ℕ)) → told ≡ tells (decoded b) room q
-      → ex ≡ encoded (taken (decoded b) q) → room′ ≡ roomAfter (decoded b) room q → outs′ ≡ outputsAfter (number (decoded b) room q) outs (writes (decoded b) room q)
+      → ex ≡ encoded (taken (decoded b) room q) → room′ ≡ roomAfter (decoded b) room q → outs′ ≡ outputsAfter (number (decoded b) room q) outs (writes (decoded b) room q)
       → left 0 told ex room′ outs′ ≡ lentCall b room q outs
   unfolding lentCall stepLeft bytesAfter
   call-accepted f z told ex room′ outs′ t x r o =
       let d = decoded b in
-      let k = x ∙ ap (λ (c : Kind). byKind c (encoded (taken d q)) b (encoded (ended (number d room q) (d .role) (d .method)))) (sym (kind-accepted (number d room q) z)) in
+      let k = x ∙ ap (λ (c : Kind). byKind c (encoded (taken d room q)) b (encoded (ended (number d room q) (d .role) (d .method)))) (sym (kind-accepted (number d room q) z)) in
       (λ i. left (sym z i) (t i) (k i) (r i) (o i))
       ∙ fit-taken b (stepLeft b d room q outs) (untouched b room (toldSize q) outs) f
 
@@ -149,6 +150,7 @@ pub record Opened (b room : List ℕ) (q : Call) : Type 0 where
   pub bytes-are : b ≡ encoded (decoded b)
   pub no-fail : failNumber (decoded b .stage) ≡ 0
   pub k-size : length (decoded b .k) ≡ kSize
+  pub h-size : length (decoded b .h) ≡ hSize
   pub lens-are : lengthsTold b ≡ decoded b .lens
   pub k-is : kTold b ≡ decoded b .k
 
@@ -164,15 +166,16 @@ opened b room q n e y z =
       accepts = k .1;
       bytes-are = sym (stored-again b (y z) (k .0));
       no-fail = next-some (decoded b .role) (decoded b .stage) (λ h. step-some q (sym (d .next) ∙ h));
-      k-size = omega (arith, length-drop 19 b);
+      k-size = omega (arith, length-take kSize (drop 19 b), length-drop 19 b);
+      h-size = omega (arith, length-drop 90 b);
       lens-are = sym (size-taken b noLengths (lengthsIn b) s);
-      k-is = sym (size-taken b [] (drop 19 b) s);
+      k-is = sym (size-taken b [] (take kSize (drop 19 b)) s);
     }
 
 module _ (b room : List ℕ) (q : Call) (o : Opened b room q) where
   -- C's length joins
   pub c-changed : (s : Stage) (n : ℕ) (ex : List ℕ) → failNumber s ≡ 0 → ex ≡ bySize b (put16 (set b 1 (stageNumber s)) 15 n) b
-      → ex ≡ encoded (withStage (decoded b) s (withC (decoded b .lens) n) (decoded b .k))
+      → ex ≡ encoded (withStage (decoded b) s (withC (decoded b .lens) n))
   c-changed s n ex f h =
       h
       ∙ sym (size-taken b b (put16 (set b 1 (stageNumber s)) 15 n) (o .size))
@@ -181,7 +184,7 @@ module _ (b room : List ℕ) (q : Call) (o : Opened b room q) where
 
   -- those of K_S and S
   pub s-changed : (s : Stage) (m n : ℕ) (ex : List ℕ) → failNumber s ≡ 0 → ex ≡ bySize b (put16 (put16 (set b 1 (stageNumber s)) 13 m) 17 n) b
-      → ex ≡ encoded (withStage (decoded b) s (withS (decoded b .lens) m n) (decoded b .k))
+      → ex ≡ encoded (withStage (decoded b) s (withS (decoded b .lens) m n))
   s-changed s m n ex f h =
       h
       ∙ sym (size-taken b b (put16 (put16 (set b 1 (stageNumber s)) 13 m) 17 n) (o .size))
@@ -189,21 +192,29 @@ module _ (b room : List ℕ) (q : Call) (o : Opened b room q) where
       ∙ s-put (decoded b) s (o .no-fail ∙ sym f) m n
 
   -- the last step
-  pub completed : (ex : List ℕ) → ex ≡ bySize b (set b 1 5) b → ex ≡ encoded (withStage (decoded b) Complete (decoded b .lens) (decoded b .k))
+  pub completed : (ex : List ℕ) → ex ≡ bySize b (set b 1 5) b → ex ≡ encoded (withStage (decoded b) Complete (decoded b .lens))
   completed ex h =
       h
       ∙ sym (size-taken b b (set b 1 5) (o .size))
       ∙ ap (λ (l : List ℕ). set l 1 5) (o .bytes-are)
       ∙ stage-put (decoded b) Complete (o .no-fail)
 
--- K joins, on the bytes of an exchange
-pub k-changed : (e : Exchange) (s : Stage) (k b ex : List ℕ) → failNumber (e .stage) ≡ failNumber s → length (e .k) ≡ kSize → length k ≡ kSize → b ≡ encoded e
-    → length b ≡ exchangeSize → ex ≡ bySize b (laid (set b 1 (stageNumber s)) 19 k) b → ex ≡ encoded (withStage e s (e .lens) k)
-k-changed e s k b ex f m n h l x =
+-- K joins, on the bytes of an exchange; and H
+pub k-changed : (e : Exchange) (k b ex : List ℕ) → failNumber (e .stage) ≡ 0 → length (e .k) ≡ kSize → length k ≡ kSize → b ≡ encoded e
+    → length b ≡ exchangeSize → ex ≡ bySize b (laid (set b 1 4) 19 k) b → ex ≡ encoded (withSecret e (e .lens) k (e .h))
+k-changed e k b ex f m n h l x =
     x
-    ∙ sym (size-taken b b (laid (set b 1 (stageNumber s)) 19 k) l)
-    ∙ ap (λ (y : List ℕ). laid (set y 1 (stageNumber s)) 19 k) h
-    ∙ k-put e s k f m n
+    ∙ sym (size-taken b b (laid (set b 1 4) 19 k) l)
+    ∙ ap (λ (y : List ℕ). laid (set y 1 4) 19 k) h
+    ∙ k-put e k f m n
+
+pub h-changed : (e : Exchange) (l : Lengths) (k h h′ b ex : List ℕ) → length k ≡ kSize → length h ≡ length h′ → b ≡ encoded (withSecret e l k h)
+    → length b ≡ exchangeSize → ex ≡ bySize b (laid b 90 h′) b → ex ≡ encoded (withSecret e l k h′)
+h-changed e l k h h′ b ex m n y s x =
+    x
+    ∙ sym (size-taken b b (laid b 90 h′) s)
+    ∙ ap (λ (z : List ℕ). laid z 90 h′) y
+    ∙ h-put e l k h h′ m n
 
 -- ---- the start
 

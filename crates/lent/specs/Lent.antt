@@ -72,7 +72,7 @@ outputsAfter n (out ∷ outs) (b ∷ bs) = outputAfter n out b ∷ outputsAfter 
 -- the bytes of an exchange after it: those of the exchange with the step taken; as they were on a refusal; those of an ended exchange
 -- on a peer's fault
 unfoldable pub bytesAfter : List ℕ → Exchange → List ℕ → Call → List ℕ
-bytesAfter b e room q = byKind (kind (number e room q)) (encoded (taken e q)) b (encoded (ended (number e room q) (e .role) (e .method)))
+bytesAfter b e room q = byKind (kind (number e room q)) (encoded (taken e room q)) b (encoded (ended (number e room q) (e .role) (e .method)))
 
 -- on an exchange's bytes: all as the step by value has it
 unfoldable pub stepLeft : List ℕ → Exchange → List ℕ → Call → List (List ℕ) → Left

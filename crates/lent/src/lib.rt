@@ -38,7 +38,7 @@ pub fn fields_end(l: Lengths) -> usize
     transcript::add_sizes(c, transcript::field_size(l.s))
 }
 
-// Makes lent bytes those of an exchange at a stage, with no length but those of both V and both I, and no K.
+// Makes lent bytes those of an exchange at a stage, with no length but those of both V and both I, no K and no H.
 pub fn make(
     ex: &mut [u8],
     stage: u8,

@@ -85,7 +85,7 @@ module _ (e : Exchange) (room c out : List ℕ) (z : number e room (ownC c (leng
   own-c-tells = ap (λ (n : ℕ). n ∷ []) (sym (length-init c)) ∙ ap counts (step-accepted e room (ownC c (length out)) z .0)
 
   -- the exchange
-  pub own-c-taken : encoded (withStage e CSent (withC (e .lens) (length c)) (e .k)) ≡ encoded (taken e (ownC c (length out)))
+  pub own-c-taken : encoded (withStage e CSent (withC (e .lens) (length c))) ≡ encoded (taken e room (ownC c (length out)))
   unfolding taken
   own-c-taken = refl
 
@@ -149,9 +149,9 @@ module _ (e : Exchange) (room p : List ℕ) (z : number e room (reply p) ≡ 0) 
 
   -- the exchange
   pub reply-taken : (ks s : List ℕ) → ks ≡ fieldOf p 0 → s ≡ fieldOf p 1
-      → encoded (withStage e ReplyRead (withS (e .lens) (length ks) (length s)) (e .k)) ≡ encoded (taken e (reply p))
+      → encoded (withStage e ReplyRead (withS (e .lens) (length ks) (length s))) ≡ encoded (taken e room (reply p))
   unfolding taken
-  reply-taken ks s f g = λ i. encoded (withStage e ReplyRead (withS (e .lens) (length (f i)) (length (g i))) (e .k))
+  reply-taken ks s f g = λ i. encoded (withStage e ReplyRead (withS (e .lens) (length (f i)) (length (g i))))
 
   -- the places
   pub reply-tells : (x y w : Part) → x ≡ fieldPart p 0 → y ≡ fieldPart p 1 → w ≡ fieldPart p 2
@@ -171,7 +171,7 @@ module _ (e : Exchange) (room : List ℕ) (a b : Bool) (kOut : List ℕ) (z : nu
   unfolding tells countOf
   verdict-tells n h = ap (λ (m : ℕ). m ∷ []) h ∙ ap counts (step-accepted e room (verdict a b (length kOut)) z .0)
 
-  pub verdict-taken : encoded (withStage e Complete (e .lens) (e .k)) ≡ encoded (taken e (verdict a b (length kOut)))
+  pub verdict-taken : encoded (withStage e Complete (e .lens)) ≡ encoded (taken e room (verdict a b (length kOut)))
   unfolding taken
   verdict-taken = refl
 

@@ -88,9 +88,9 @@ module _ (e : Exchange) (room p : List ℕ) (z : number e room (init p) ≡ 0) w
       ∙ step-accepted e room (init p) z .1
 
   -- the exchange
-  pub init-taken : (c : List ℕ) → c ≡ fieldOf p 0 → encoded (withStage e InitRead (withC (e .lens) (length c)) (e .k)) ≡ encoded (taken e (init p))
+  pub init-taken : (c : List ℕ) → c ≡ fieldOf p 0 → encoded (withStage e InitRead (withC (e .lens) (length c))) ≡ encoded (taken e room (init p))
   unfolding taken
-  init-taken c f = λ i. encoded (withStage e InitRead (withC (e .lens) (length (f i))) (e .k))
+  init-taken c f = λ i. encoded (withStage e InitRead (withC (e .lens) (length (f i))))
 
   -- C's place
   pub init-tells : (x : Part) → x ≡ fieldPart p 0 → x .start ∷ x .len ∷ [] ≡ tells e room (init p)
@@ -195,7 +195,7 @@ module _ (e : Exchange) (room g out kOut : List ℕ) where
   unfolding tells countOf secondOf
   sign-tells z count second a b = (λ i. a i ∷ b i ∷ []) ∙ ap bothCounts (step-accepted e room (sign g (length out) (length kOut)) z .0)
 
-  pub sign-taken : encoded (withStage e Complete (e .lens) (e .k)) ≡ encoded (taken e (sign g (length out) (length kOut)))
+  pub sign-taken : encoded (withStage e Complete (e .lens)) ≡ encoded (taken e room (sign g (length out) (length kOut)))
   unfolding taken
   sign-taken = refl
 

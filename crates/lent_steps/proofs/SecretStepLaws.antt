@@ -32,7 +32,7 @@ use Rattle.transcript.specs.Fields.{field, fieldLength, around, fieldSize}
 use Rattle.transcript.proofs.RoomLaws.{length-field, take-onto}
 use Rattle.exchange.specs.Causes.{methodOk, secretCause, ownOk, kOf, hOf}
 use Rattle.exchange.specs.Record.{noLengths}
-use Rattle.exchange.specs.Steps.{Call, fedCause, number, headEnd, fieldsEnd, standingC, filled, withS, taken, countOf, secondOf, answered, roomAfter, secret, kRecord, withStage, headSize, fieldsSize}
+use Rattle.exchange.specs.Steps.{Call, fedCause, number, headEnd, fieldsEnd, standingC, filled, withS, withOwn, taken, countOf, answered, roomAfter, secret, kRecord, withStage, withSecret, headSize, fieldsSize}
 use Rattle.exchange.specs.declared.Stage.the-variants.{SecretDone}
 use Rattle.exchange.specs.declared.Exchange.{Exchange}
 use Rattle.exchange.specs.declared.Step.{Step}
@@ -46,7 +46,8 @@ use Rattle.changes.specs.Changes.{put16}
 use Rattle.stored.proofs.StoredLaws.{role-read, size-taken, fits-known}
 use Rattle.stored.proofs.RoundTrip.{Short, decoded-encoded, encoded-fits}
 use Rattle.lent.specs.Lent.{tells}
-use Rattle.lent.proofs.LentLaws.{Opened, s-changed, k-changed}
+use Rattle.lent.proofs.LentLaws.{Opened, s-changed, k-changed, h-changed}
+use Rattle.lent.proofs.Kept.{length-h}
 
 -- ---- K and its record
 
@@ -199,41 +200,38 @@ module _ (e : Exchange) (room : List ℕ) (cl : Classical) (x : List ℕ) (kem :
           all-fits = all-most (rowOf (e .method)) (withS (e .lens) (length ks) (length s)) (f .row) b (length (kOf (e .method) x kPq)) (f .k-row);
         }
 
-    -- the exchange, the counts and the room of an accepted step, by the role
-    taken-client : (e .role ≡ server → ⊥) → withStage e SecretDone (e .lens) (kRecord (kOf (e .method) x kPq)) ≡ taken e (secret cl x kem kPq ks s)
-    unfolding taken
-    taken-client h = rw (ne-eqb (e .role) server h)
+    -- the lengths, the exchange, the count and the room of an accepted step, by the role
+    own-client : (e .role ≡ server → ⊥) → e .lens ≡ withOwn (e .role) (e .lens) (length ks) (length s)
+    own-client h = rw (ne-eqb (e .role) server h)
 
-    taken-server : e .role ≡ server → withStage e SecretDone (withS (e .lens) (length ks) (length s)) (kRecord (kOf (e .method) x kPq)) ≡ taken e (secret cl x kem kPq ks s)
-    unfolding taken
-    taken-server h = rw (eq-eqb (e .role) server h)
+    own-server : e .role ≡ server → withS (e .lens) (length ks) (length s) ≡ withOwn (e .role) (e .lens) (length ks) (length s)
+    own-server h = rw (eq-eqb (e .role) server h)
 
-    count-is : (l : Lengths) (k : List ℕ) → withStage e SecretDone l k ≡ taken e (secret cl x kem kPq ks s)
-        → fieldsEnd l + length (kOf (e .method) x kPq) ≡ countOf e room (secret cl x kem kPq ks s)
+    taken-is : (l : Lengths) (k h : List ℕ) → l ≡ withOwn (e .role) (e .lens) (length ks) (length s) → k ≡ kRecord (kOf (e .method) x kPq)
+        → h ≡ taken e room (secret cl x kem kPq ks s) .h → withSecret e l k h ≡ taken e room (secret cl x kem kPq ks s)
+    unfolding taken
+    taken-is l k h a b d = λ i. withSecret e (a i) (b i) (d i)
+
+    count-is : (l : Lengths) (end len : ℕ) → l ≡ withOwn (e .role) (e .lens) (length ks) (length s) → end ≡ fieldsEnd l → len ≡ length (kOf (e .method) x kPq)
+        → end + len ≡ answered e room (secret cl x kem kPq ks s) .count
     unfolding countOf
-    count-is l k t = ap (λ (y : Exchange). fieldsEnd (y .lens) + length (kOf (e .method) x kPq)) t
+    count-is l end len a f g = (λ i. (f ∙ ap fieldsEnd a) i + g i) ∙ ap (λ (y : Step). y .count) (step-accepted e room (secret cl x kem kPq ks s) z .0)
 
-    second-is : 0 ≡ secondOf e (secret cl x kem kPq ks s)
-    unfolding secondOf
-    second-is = refl
+    -- H over as much of the room as is counted, as it is left; and what is told
+    h-taken : (n : ℕ) (left : List ℕ) → n ≡ answered e room (secret cl x kem kPq ks s) .count → left ≡ roomAfter e room (secret cl x kem kPq ks s)
+        → hOf (e .method) (take n left) ≡ taken e room (secret cl x kem kPq ks s) .h
+    unfolding taken countOf filled
+    h-taken n left c r =
+        let a = step-accepted e room (secret cl x kem kPq ks s) z in
+        let k = c ∙ ap (λ (y : Step). y .count) (sym (a .0)) in
+        let f = r ∙ sym (a .1) in
+        λ i. hOf (e .method) (take (k i) (f i))
 
-    answer : (l : Lengths) (end len : ℕ) (bytes : List ℕ) → withStage e SecretDone l (kRecord (kOf (e .method) x kPq)) ≡ taken e (secret cl x kem kPq ks s)
-        → end ≡ fieldsEnd l → len ≡ length (kOf (e .method) x kPq) → bytes ≡ kRecord (kOf (e .method) x kPq)
-        → _≡_ {A = Step} (record { number = 0; count = end + len; second = 0; exchange = withStage e SecretDone l bytes }) (answered e room (secret cl x kem kPq ks s))
-    answer l end len bytes t f g b =
-        let c : end + len ≡ countOf e room (secret cl x kem kPq ks s) = (λ i. f i + g i) ∙ count-is l (kRecord (kOf (e .method) x kPq)) t in
-        let y : withStage e SecretDone l bytes ≡ taken e (secret cl x kem kPq ks s) = ap (withStage e SecretDone l) b ∙ t in
-        (λ i. record { number = 0; count = c i; second = second-is i; exchange = y i }) ∙ step-accepted e room (secret cl x kem kPq ks s) z .0
-
-    -- the count, and H over as much of the room as it is left
     told-is : (n : ℕ) (left : List ℕ) → n ≡ answered e room (secret cl x kem kPq ks s) .count → left ≡ roomAfter e room (secret cl x kem kPq ks s)
         → n ∷ hOf (e .method) (take n left) ≡ tells e room (secret cl x kem kPq ks s)
     unfolding tells
     told-is n left c r =
-        let a = step-accepted e room (secret cl x kem kPq ks s) z in
-        let k = c ∙ ap (λ (y : Step). y .count) (sym (a .0)) in
-        let f = r ∙ sym (a .1) in
-        let h = (λ i. hOf (e .method) (take (k i) (f i))) ∙ handed-accepted e room (secret cl x kem kPq ks s) z in
+        let h = h-taken n left c r ∙ handed-accepted e room (secret cl x kem kPq ks s) z in
         λ i. c i ∷ h i
 
     filled-client : (e .role ≡ server → ⊥) → over room (fieldsEnd (e .lens)) (kOf (e .method) x kPq) ≡ filled e room (secret cl x kem kPq ks s)
@@ -245,27 +243,27 @@ module _ (e : Exchange) (room : List ℕ) (cl : Classical) (x : List ℕ) (kem :
     unfolding filled
     filled-server h = rw (eq-eqb (e .role) server h)
 
-    -- what a client answers and leaves
+    -- what a client counts and leaves
     client-done : (e .role ≡ server → ⊥) → (end len : ℕ) (bytes src left : List ℕ) → end ≡ fieldsSize (e .lens) → len ≡ length (kOf (e .method) x kPq)
         → bytes ≡ kRecord (kOf (e .method) x kPq) → src ≡ bytesAt bytes (inside (length bytes) (part 0 len)) → left ≡ laid room end src
-        → (_≡_ {A = Step} (record { number = 0; count = end + len; second = 0; exchange = withStage e SecretDone (e .lens) bytes }) (answered e room (secret cl x kem kPq ks s)))
+        → (end + len ≡ answered e room (secret cl x kem kPq ks s) .count)
         × (left ≡ roomAfter e room (secret cl x kem kPq ks s))
     client-done h end len bytes src left f₀ g b p w =
         let t = secret-fits in
         let f = f₀ ∙ fields-fits (e .lens) (t .sums) in
         let k = key-part (kOf (e .method) x kPq) len bytes src (t .k-fits) g b p in (
-          answer (e .lens) end len bytes (taken-client h) f g b,
+          count-is (e .lens) end len (own-client h) f g,
           w ∙ (λ i. laid room (f i) (k i))
               ∙ laid-fits room (fieldsEnd (e .lens)) (kOf (e .method) x kPq) (omega (arith, t .room-least, t .all-fits))
               ∙ filled-client h
               ∙ step-accepted e room (secret cl x kem kPq ks s) z .1,
         )
 
-    -- what a server answers and leaves
+    -- what a server counts and leaves
     server-done : e .role ≡ server → (start size end len : ℕ) (bytes src mid left : List ℕ) → start ≡ headSize (e .lens) → size ≡ fieldSize (e .lens .c)
         → mid ≡ around room start size ks s → end ≡ fieldsSize (withS (e .lens) (length ks) (length s)) → len ≡ length (kOf (e .method) x kPq)
         → bytes ≡ kRecord (kOf (e .method) x kPq) → src ≡ bytesAt bytes (inside (length bytes) (part 0 len)) → left ≡ laid mid end src
-        → (_≡_ {A = Step} (record { number = 0; count = end + len; second = 0; exchange = withStage e SecretDone (withS (e .lens) (length ks) (length s)) bytes }) (answered e room (secret cl x kem kPq ks s)))
+        → (end + len ≡ answered e room (secret cl x kem kPq ks s) .count)
         × (left ≡ roomAfter e room (secret cl x kem kPq ks s))
     server-done h start size end len bytes src mid left a₀ c₀ m f₀ g b p w =
         let t = secret-fits in
@@ -275,7 +273,7 @@ module _ (e : Exchange) (room : List ℕ) (cl : Classical) (x : List ℕ) (kem :
         let f = f₀ ∙ fields-fits (withS (e .lens) (length ks) (length s)) (u .sums) in
         let k = key-part (kOf (e .method) x kPq) len bytes src (t .k-fits) g b p in
         let o : mid ≡ around room (headEnd (e .lens)) (fieldLength (e .lens .c)) ks s = m ∙ (λ i. around room (a i) (c i) ks s) in (
-          answer (withS (e .lens) (length ks) (length s)) end len bytes (taken-server h) f g b,
+          count-is (withS (e .lens) (length ks) (length s)) end len (own-server h) f g,
           w ∙ (λ i. laid (o i) (f i) (k i))
               ∙ room-server (e .lens) room ks s (kOf (e .method) x kPq) (omega (arith, t .room-least, u .all-fits))
               ∙ filled-server h
@@ -297,14 +295,14 @@ small-short l h = record {
 }
 
 -- what the bytes of an exchange tell
-module _ (e : Exchange) (b : List ℕ) (h : b ≡ encoded e) (k : length (e .k) ≡ kSize) where
+module _ (e : Exchange) (b : List ℕ) (h : b ≡ encoded e) (k : length (e .k) ≡ kSize) (m : length (e .h) ≡ hSize) where
   whole : length b ≡ exchangeSize
-  whole = ap length h ∙ fits-known (encoded e) (encoded-fits e k) .0
+  whole = ap length h ∙ fits-known (encoded e) (encoded-fits e k m) .0
 
   lengths-there : Short (e .lens) → lengthsTold b ≡ e .lens
   unfolding decoded
   lengths-there f =
-      sym (size-taken b noLengths (lengthsIn b) whole) ∙ ap lengthsIn h ∙ ap (λ (y : Exchange). y .lens) (decoded-encoded e f)
+      sym (size-taken b noLengths (lengthsIn b) whole) ∙ ap lengthsIn h ∙ ap (λ (y : Exchange). y .lens) (decoded-encoded e f k)
 
 module _ (b room : List ℕ) (cl : Classical) (x : List ℕ) (kem : Kem) (kPq ks s : List ℕ) (o : Opened b room (secret cl x kem kPq ks s)) where
   abbrev q : Call
@@ -322,11 +320,11 @@ module _ (b room : List ℕ) (cl : Classical) (x : List ℕ) (kem : Kem) (kPq ks
     pub left-is : left ≡ laid room₁ end src
     pub ex-is : ex ≡ bySize ex₁ (laid (set ex₁ 1 4) 19 bytes) ex₁
 
-  -- then all is as the step has it, and the count is small
+  -- then, with H in the exchange, all is as the step has it, and the count is small
   pub record Done (count : ℕ) (left ex : List ℕ) : Type 0 where
     pub told : count ∷ hOf (decoded b .method) (take count left) ≡ tells (decoded b) room q
     pub room-is : left ≡ roomAfter (decoded b) room q
-    pub ex-is : ex ≡ encoded (taken (decoded b) q)
+    pub ex-is : (ex′ : List ℕ) → ex′ ≡ bySize ex (laid ex 90 (hOf (decoded b .method) (take count left))) ex → ex′ ≡ encoded (taken (decoded b) room q)
 
   pub secret-done : (role end len : ℕ) (ex₁ room₁ bytes src left ex : List ℕ) → Joined role end len ex₁ room₁ bytes src left ex
       → Done (end + len) left ex × (end + len ≤ roomLeast)
@@ -344,35 +342,40 @@ module _ (b room : List ℕ) (cl : Classical) (x : List ℕ) (kem : Kem) (kPq ks
       size : length bytes ≡ kSize
       size = ap length (j .bytes-are) ∙ length-record (kOf (e .method) x kPq) (fit .k-fits)
 
+      -- by the exchange with K in it, and the count
+      with-h : (l : Lengths) → l ≡ withOwn (e .role) (e .lens) (length ks) (length s) → ex ≡ encoded (withSecret e l bytes (e .h))
+          → end + len ≡ answered e room q .count → left ≡ roomAfter e room q → Done (end + len) left ex
+      with-h l a c n r = record {
+        told = told-is e room cl x kem kPq ks s z (end + len) left n r;
+        room-is = r;
+        ex-is = λ ex′ y.
+            let d : List ℕ = hOf (e .method) (take (end + len) left) in
+            h-changed e l bytes (e .h) d ex ex′ size (o .h-size ∙ sym (length-h (e .method) (take (end + len) left) (fit .method-ok))) c
+            (whole (withSecret e l bytes (e .h)) ex c size (o .h-size)) y
+            ∙ ap encoded (taken-is e room cl x kem kPq ks s z l bytes d a (j .bytes-are) (h-taken e room cl x kem kPq ks s z (end + len) left n r));
+      }
+
       by-role : (t : Bool) → eqb role server ≡ t → Done (end + len) left ex × (end + len ≤ roomLeast)
       by-role true w =
           let r : e .role ≡ server = sym (role-read b role (j .role-is)) ∙ eqb-true role server w in
           let u = server-fits e room cl x kem kPq ks s z r in
           let l = withS (e .lens) (length ks) (length s) in
-          let e₁ = withStage e SecretDone l (e .k) in
+          let e₁ = withStage e SecretDone l in
           let a = s-changed b room q o SecretDone (length ks) (length s) ex₁ refl (j .own ∙ rw w) in
-          let g = j .end-is ∙ ap fieldsSize (lengths-there e₁ ex₁ a (o .k-size) (small-short l (u .sums))) in
-          let c = k-changed e₁ SecretDone bytes ex₁ ex refl (o .k-size) size a (whole e₁ ex₁ a (o .k-size)) (j .ex-is) in
+          let g = j .end-is ∙ ap fieldsSize (lengths-there e₁ ex₁ a (o .k-size) (o .h-size) (small-short l (u .sums))) in
+          let c = k-changed e₁ bytes ex₁ ex refl (o .k-size) size a (whole e₁ ex₁ a (o .k-size) (o .h-size)) (j .ex-is) in
           let f = server-done e room cl x kem kPq ks s z r _ _ end len bytes src room₁ left (ap headSize (o .lens-are)) (ap (λ (y : Lengths). fieldSize (y .c)) (o .lens-are)) (j .own-room ∙ rw w) g (j .len-is) (j .bytes-are) (j .src-is) (j .left-is) in (
-            record {
-              told = told-is e room cl x kem kPq ks s z (end + len) left (ap (λ (y : Step). y .count) (f .0)) (f .1);
-              room-is = f .1;
-              ex-is = c ∙ ap (λ (k : List ℕ). encoded (withStage e SecretDone l k)) (j .bytes-are) ∙ ap encoded (taken-server e room cl x kem kPq ks s z r);
-            },
+            with-h l (own-server e room cl x kem kPq ks s z r) c (f .0) (f .1),
             omega (arith, g ∙ fields-fits l (u .sums), j .len-is, u .all-fits),
           )
       by-role false w =
           let r : e .role ≡ server → ⊥ = λ h. eqb-false role server w (role-read b role (j .role-is) ∙ h) in
           let a : ex₁ ≡ encoded e = j .own ∙ rw w (o .bytes-are) in
-          let g = j .end-is ∙ ap fieldsSize (lengths-there e ex₁ a (o .k-size) (small-short (e .lens) (fit .sums))) in
-          let c = k-changed e SecretDone bytes ex₁ ex (o .no-fail) (o .k-size) size a (whole e ex₁ a (o .k-size)) (j .ex-is) in
+          let g = j .end-is ∙ ap fieldsSize (lengths-there e ex₁ a (o .k-size) (o .h-size) (small-short (e .lens) (fit .sums))) in
+          let c = k-changed e bytes ex₁ ex (o .no-fail) (o .k-size) size a (whole e ex₁ a (o .k-size) (o .h-size)) (j .ex-is) in
           let n : room₁ ≡ room = j .own-room ∙ rw w in
           let m = j .left-is ∙ ap (λ (y : List ℕ). laid y end src) n in
           let f = client-done e room cl x kem kPq ks s z r end len bytes src left g (j .len-is) (j .bytes-are) (j .src-is) m in (
-            record {
-              told = told-is e room cl x kem kPq ks s z (end + len) left (ap (λ (y : Step). y .count) (f .0)) (f .1);
-              room-is = f .1;
-              ex-is = c ∙ ap (λ (k : List ℕ). encoded (withStage e SecretDone (e .lens) k)) (j .bytes-are) ∙ ap encoded (taken-client e room cl x kem kPq ks s z r);
-            },
+            with-h (e .lens) (own-client e room cl x kem kPq ks s z r) c (f .0) (f .1),
             omega (arith, g ∙ fields-fits (e .lens) (fit .sums), j .len-is, fit .all-fits),
           )

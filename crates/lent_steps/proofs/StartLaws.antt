@@ -5,7 +5,7 @@ use mathlib.Core.List.{List, _++_}
 use native.Mathlib.Omega.{arith}
 use lib.ListN.{length}
 use borrow.Author.Tests.{eq-eqb, ne-eqb}
-use Rattle.limits.specs.Limits.{versionMost, kexinitMost, kSize}
+use Rattle.limits.specs.Limits.{versionMost, kexinitMost, kSize, hSize}
 use Rattle.limits.proofs.RangeLaws.{within-least, within-most}
 use Rattle.buffers.specs.Bytes.{zeros, onto, laid}
 use Rattle.wire.proofs.StringLaws.{length-string}
@@ -75,7 +75,7 @@ module _ (role m : ℕ) (vc vs ic is room : List ℕ) (n : ℕ) (e : n ≡ start
 
     -- and there they go
     pub start-accepted : (r : List ℕ) → r ≡ onto room (field vc ++ field vs ++ field ic ++ field is)
-        → (answer 0 (record { stage = Started; role = role; method = m; lens = lengthsOf vc vs ic is; k = zeros kSize }) ≡ started role m vc vs ic is (length room))
+        → (answer 0 (record { stage = Started; role = role; method = m; lens = lengthsOf vc vs ic is; k = zeros kSize; h = zeros hSize }) ≡ started role m vc vs ic is (length room))
         × (r ≡ startedRoom role m vc vs ic is room)
     unfolding started startedRoom
     start-accepted r f =

@@ -125,16 +125,28 @@ fn h_of(method: u8, room: &[u8], n: usize) -> [u8; limits::H_SIZE]
     d.bytes
 }
 
-// What an accepted step tells: the hash input's count, and H.
-fn tell(method: u8, room: &[u8], n: usize, count: &mut u64, h: &mut [u8; limits::H_SIZE])
+// H joins the exchange, and is told behind the hash input's count.
+fn join_hash(
+    ex: &mut [u8],
+    room: &[u8],
+    method: u8,
+    n: usize,
+    count: &mut u64,
+    h: &mut [u8; limits::H_SIZE],
+)
     requires { ⌜ (methodOk method ≡ true) × (n ≤ length (now room)) × (n ≤ hashMost) ⌝ }
-    ensures { λ _. ⌜ now (count .exit) ∷ now (h .exit) ≡ n ∷ hOf method (take n (now (room .entry))) ⌝ }
+    ensures { λ _.
+        let b = now (ex .entry) in
+        let d = hOf method (take n (now (room .entry))) in
+        ⌜ (now (count .exit) ∷ now (h .exit) ≡ n ∷ d) × (now (ex .exit) ≡ bySize b (laid b 90 d) b) ⌝ }
 {
+    let d = h_of(method, room, n);
+    changes::put_h(ex, &d);
     *count = n as u64;
-    *h = h_of(method, room, n);
+    *h = d;
 }
 
-// The secret: K joins the room and the exchange. Told: the hash input's count, and H; zeros on a refusal.
+// The secret: K joins the room and the exchange, and H the exchange. Told: the hash input's count, and H; zeros on a refusal.
 pub fn take_secret(
     ex: &mut [u8],
     room: &mut [u8],
@@ -164,6 +176,6 @@ pub fn take_secret(
     let len = key.len;
     join_own(ex, room, role, ks, s);
     let end = join_key(ex, room, key);
-    tell(method, room, end + len, count, h);
+    join_hash(ex, room, method, end + len, count, h);
     0
 }

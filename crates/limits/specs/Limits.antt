@@ -58,17 +58,27 @@ hashSize = 209
 abbrev pub lengthMost : ℕ
 lengthMost = 65535
 
--- an exchange as it is lent at the boundary: the mark of its layout, stage, fail number, role and method, seven lengths of two bytes, K
+-- a key, of 1 byte or more; its letter, from A to F
+abbrev pub keyMost : ℕ
+keyMost = 128
+
+abbrev pub letterFirst : ℕ
+letterFirst = 65
+
+abbrev pub letterLast : ℕ
+letterLast = 70
+
+-- an exchange as it is lent at the boundary: the mark of its layout, stage, fail number, role and method, seven lengths of two bytes, K, H
 abbrev pub exchangeSize : ℕ
-exchangeSize = 90
+exchangeSize = 154
 
 -- the mark: another layout takes another
 abbrev pub exchangeMark : ℕ
-exchangeMark = 1
+exchangeMark = 2
 
 -- the boundary's own number, which the header repeats
 abbrev pub libraryVersion : ℕ
-libraryVersion = 3
+libraryVersion = 4
 
 -- the room, document 01's word for the buffer that is lent for the hash input: at least 32 + 506 + 8,192 + 2,048 + 3,330 + 48 bytes
 abbrev pub roomLeast : ℕ

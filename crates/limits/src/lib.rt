@@ -45,14 +45,21 @@ pub const HASH_SIZE: usize = 209;
 // A length that an exchange records: what its two bytes can say.
 pub const LENGTH_MOST: usize = 65535;
 
-// An exchange as it is lent at the boundary: the mark of its layout, stage, fail number, role and method, seven lengths of two bytes, K.
-pub const EXCHANGE_SIZE: usize = 90;
+// A key, of 1 byte or more; its letter, from A to F.
+pub const KEY_MOST: usize = 128;
+
+pub const LETTER_FIRST: usize = 65;
+
+pub const LETTER_LAST: usize = 70;
+
+// An exchange as it is lent at the boundary: the mark of its layout, stage, fail number, role and method, seven lengths of two bytes, K, H.
+pub const EXCHANGE_SIZE: usize = 154;
 
 // The mark: another layout takes another, so that bytes of an older library, and bytes that were wiped, are no exchange's.
-pub const EXCHANGE_MARK: u8 = 1;
+pub const EXCHANGE_MARK: u8 = 2;
 
 // The boundary's own number, which the header repeats: it goes up by one where an entry or a size changes.
-pub const LIBRARY_VERSION: u64 = 3;
+pub const LIBRARY_VERSION: u64 = 4;
 
 // The least room that may be lent: 32 + 506 + 8,192 + 2,048 + 3,330 + 48 bytes.
 pub const ROOM_LEAST: usize = 14156;

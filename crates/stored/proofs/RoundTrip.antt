@@ -4,11 +4,11 @@ use mathlib.Core.Path.{_≡_, refl, sym, ap, _∙_}
 use mathlib.Core.List.{List, [], _∷_, _++_}
 use mathlib.Core.Bool.{Bool, true, false, _&&_, _||_, false≢true}
 use native.Mathlib.Omega.{arith}
-use lib.ListN.{length, getD, drop}
-use lib.Seq.{drop-cons}
+use lib.ListN.{length, getD, take, drop, length-append, take-append-drop}
+use lib.Seq.{drop-cons, drop-drop, take-at, drop-at}
 use lib.Dec.{eqb, leb}
 use borrow.Author.Tests.{eqb-true, ne-eqb, lt-leb}
-use Rattle.limits.specs.Limits.{kSize, exchangeSize, exchangeMark}
+use Rattle.limits.specs.Limits.{kSize, hSize, exchangeSize, exchangeMark}
 use Rattle.limits.proofs.BoolLaws.{and-false}
 use Rattle.buffers.specs.Bytes.{Bytes}
 use Rattle.exchange.specs.declared.Stage.{Stage}
@@ -54,9 +54,9 @@ two-back : (n : ℕ) → n < 65536 → n / 256 % 256 * 256 + n % 256 ≡ n
 two-back n h = omega arith
 
 -- the exchange of an exchange's bytes is that exchange
-pub decoded-encoded : (x : Exchange) → Short (x .lens) → decoded (encoded x) ≡ x
+pub decoded-encoded : (x : Exchange) → Short (x .lens) → length (x .k) ≡ kSize → decoded (encoded x) ≡ x
 unfolding decoded encoded
-decoded-encoded x h = λ i. record {
+decoded-encoded x h l = λ i. record {
   stage = stage-back (x .stage) i;
   role = x .role;
   method = x .method;
@@ -69,13 +69,14 @@ decoded-encoded x h = λ i. record {
     c = two-back (x .lens .c) (h .c) i;
     s = two-back (x .lens .s) (h .s) i;
   };
-  k = x .k;
+  k = take-at (x .k) (x .h) kSize l i;
+  h = drop-at (x .k) (x .h) kSize l i;
 }
 
 -- and they fit
-pub encoded-fits : (x : Exchange) → length (x .k) ≡ kSize → fits (encoded x) ≡ true
+pub encoded-fits : (x : Exchange) → length (x .k) ≡ kSize → length (x .h) ≡ hSize → fits (encoded x) ≡ true
 unfolding fits encoded
-encoded-fits x l = rw l (stage-fits (x .stage))
+encoded-fits x l m = rw (length-append (x .k) (x .h), l, m) (stage-fits (x .stage))
 
 -- ---- what was loaded is stored again as the same bytes
 
@@ -137,8 +138,11 @@ stored-again b y h =
     ∷ high-back (g 13) (g 14) (y .ks .0) (y .ks .1) i ∷ low-back (g 13) (g 14) (y .ks .0) (y .ks .1) i
     ∷ high-back (g 15) (g 16) (y .c .0) (y .c .1) i ∷ low-back (g 15) (g 16) (y .c .0) (y .c .1) i
     ∷ high-back (g 17) (g 18) (y .s .0) (y .s .1) i ∷ low-back (g 17) (g 18) (y .s .0) (y .s .1) i
-    ∷ drop 19 b)
+    ∷ both-parts i)
     ∙ firsts-drop b 0 19 (omega arith)
+  where
+    both-parts : take kSize (drop 19 b) ++ drop 90 b ≡ drop 19 b
+    both-parts = ap (λ (t : List ℕ). take kSize (drop 19 b) ++ t) (sym (drop-drop kSize 19 b)) ∙ take-append-drop kSize (drop 19 b)
 
 length-bytes : (b : List ℕ) → Bytes b → LengthBytes b
 length-bytes b y = record { vc = (y 5, y 6); vs = (y 7, y 8); ic = (y 9, y 10); is = (y 11, y 12); ks = (y 13, y 14); c = (y 15, y 16); s = (y 17, y 18) }

@@ -2,9 +2,9 @@
 use Prim.Native.Nat.{ℕ, _+_, _*_, _/_, _%_, _<_}
 use mathlib.Core.List.{List, [], _∷_, _++_}
 use mathlib.Core.Bool.{Bool, cond, _&&_, _||_}
-use lib.ListN.{length, getD, drop}
+use lib.ListN.{length, getD, take, drop}
 use lib.Dec.{leb, eqb}
-use Rattle.limits.specs.Limits.{kSize, exchangeSize, exchangeMark}
+use Rattle.limits.specs.Limits.{kSize, hSize, exchangeSize, exchangeMark}
 use Rattle.buffers.specs.Bytes.{zeros}
 use Rattle.exchange.specs.Record.{noLengths}
 use Rattle.exchange.specs.declared.Stage.{Stage}
@@ -63,7 +63,7 @@ headOf x =
     ++ bytes16 (x .lens .s)
 
 unfoldable pub encoded : Exchange → List ℕ
-encoded x = headOf x ++ x .k
+encoded x = headOf x ++ x .k ++ x .h
 
 -- ---- the exchange of bytes
 
@@ -106,12 +106,13 @@ decoded b = record {
   role = getD b 3 0;
   method = getD b 4 0;
   lens = lengthsIn b;
-  k = drop 19 b;
+  k = take kSize (drop 19 b);
+  h = drop 90 b;
 }
 
 -- what bytes of another size are loaded as
 abbrev pub blank : Exchange
-blank = record { stage = Started; role = 0; method = 0; lens = noLengths; k = zeros kSize }
+blank = record { stage = Started; role = 0; method = 0; lens = noLengths; k = zeros kSize; h = zeros hSize }
 
 -- ---- answers that go by lent bytes: one where an exchange has them, or where they are as many as one has; else another
 
@@ -121,9 +122,12 @@ byFit b new old = cond (fits b) new old
 unfoldable pub bySize : {A : Type 0} → List ℕ → A → A → A
 bySize b new old = cond (eqb (length b) exchangeSize) new old
 
--- the lengths and K that bytes of an exchange's size tell; none in others
+-- the lengths, K and H that bytes of an exchange's size tell; none in others
 abbrev pub lengthsTold : List ℕ → Lengths
 lengthsTold b = bySize b (lengthsIn b) noLengths
 
 abbrev pub kTold : List ℕ → List ℕ
-kTold b = bySize b (drop 19 b) []
+kTold b = bySize b (take kSize (drop 19 b)) []
+
+abbrev pub hKept : List ℕ → List ℕ
+hKept b = bySize b (drop 90 b) []

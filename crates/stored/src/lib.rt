@@ -1,5 +1,5 @@
 // An exchange as the bytes that a host lends for it: the mark of the layout, stage, fail number, role and method a byte each, seven
-// lengths of two bytes, the highest first, and K. What a step reads of them.
+// lengths of two bytes, the highest first, K and H. What a step reads of them.
 use exchange::Exchange;
 use exchange::Lengths;
 use exchange::Stage;
@@ -7,7 +7,7 @@ ghost use mathlib.Core.Path.{_≡_};
 ghost use Prim.Native.Nat.{_+_, _*_, _≤_, _<_};
 ghost use lib.ListN.{length, getD};
 ghost use Rattle.limits.specs.Limits.{exchangeSize};
-ghost use Rattle.stored.specs.Stored.{stageNumber, failNumber, stageOf, marksFit, fits as fitting, number16, Halves, LengthBytes, decoded, blank, bySize, lengthsTold, kTold, encoded};
+ghost use Rattle.stored.specs.Stored.{stageNumber, failNumber, stageOf, marksFit, fits as fitting, number16, Halves, LengthBytes, decoded, blank, bySize, lengthsTold, kTold, hKept, encoded};
 
 // Where the single bytes stand.
 pub const MARK_AT: usize = 0;
@@ -27,8 +27,10 @@ pub const C_AT: usize = 15;
 
 pub const S_AT: usize = 17;
 
-// Where K begins: behind five bytes and seven lengths.
+// Where K begins: behind five bytes and seven lengths. H follows it.
 pub const K_AT: usize = 19;
+
+pub const H_AT: usize = 90;
 
 // The numbers of the stages.
 pub const STARTED: u8 = 0;
@@ -178,7 +180,17 @@ pub fn k_in(b: &[u8]) -> &[u8]
     if b.len() != limits::EXCHANGE_SIZE {
         return &b[0..0];
     }
-    &b[K_AT..]
+    &b[K_AT..H_AT]
+}
+
+// H among the bytes; empty in bytes of another size.
+pub fn h_in(b: &[u8]) -> &[u8]
+    ensures { λ r. ⌜ now r ≡ hKept (now (b .entry)) ⌝ }
+{
+    if b.len() != limits::EXCHANGE_SIZE {
+        return &b[0..0];
+    }
+    &b[H_AT..]
 }
 
 // The exchange in as many bytes as one has, whatever their marks; a blank one in others.
@@ -187,6 +199,8 @@ pub fn load(b: &[u8]) -> Exchange
 {
     let mut k = [0u8; limits::K_SIZE];
     buffers::put_bytes(&mut k, 0, k_in(b));
+    let mut h = [0u8; limits::H_SIZE];
+    buffers::put_bytes(&mut h, 0, h_in(b));
     let lens = lengths_in(b);
     if b.len() != limits::EXCHANGE_SIZE {
         return Exchange {
@@ -195,6 +209,7 @@ pub fn load(b: &[u8]) -> Exchange
             method: 0,
             lens,
             k,
+            h,
         };
     }
     let stage = stage_in(b);
@@ -204,6 +219,7 @@ pub fn load(b: &[u8]) -> Exchange
         method: b[METHOD_AT],
         lens,
         k,
+        h,
     }
 }
 
@@ -240,4 +256,6 @@ pub fn store(b: &mut [u8], x: Exchange)
     ];
     buffers::put_bytes(b, 0, &head);
     buffers::put_bytes(b, K_AT, &k);
+    let h = x.h;
+    buffers::put_bytes(b, H_AT, &h);
 }

@@ -5,12 +5,11 @@ use mathlib.Core.Path.{_≡_, refl, ap, _∙_}
 use mathlib.Core.List.{List, [], _∷_}
 use lib.ListN.{length, getD}
 use denote.Ref.{now}
-use Rattle.limits.specs.Limits.{kSize}
 use Rattle.exchange.specs.Steps.{ownC, countOf, secondOf}
 use Rattle.exchange.proofs.StepLaws.{output-refused}
 use Rattle.messages.specs.Messages.{initBytes}
 use Rattle.lent.specs.Lent.{tells}
-use Rattle.by_value.proofs.ValueLaws.{value-long, value-step, second-none}
+use Rattle.by_value.proofs.ValueLaws.{Sized, value-long, value-step, second-none}
 use Rattle.client.proofs.own_c.Statement.{statement}
 use Rattle.client.proofs.own_c.Tie as tie
 
@@ -50,8 +49,8 @@ same-length c = search needs
 same-length-2 : tie.Need-same-length-2
 same-length-2 c = search needs
 
-k-size : (c : tie.Start) → length (c .args .e .k) ≡ kSize
-k-size c = search needs
+sizes : (c : tie.Start) → Sized (c .args .e)
+sizes c = (search needs, search needs)
 
 returns-2 : tie.Need-returns-2
 unfolding tells countOf secondOf
@@ -63,7 +62,7 @@ returns-2 c =
     let e = a .e in
     let r = now (a .room) in
     let q = ownC (now (a .c)) (length (now (a .out))) in
-    let v = value-step e r q _ _ (t .before .before .lay .ensures) (t .if1 .left) (k-size s) (now (a .out) ∷ []) _ _ _ _ _ (d .own-c .ensures) _ _ (λ w. (ap (λ (l : List ℕ). getD l 0 0) (w .told-is), second-none e r q refl)) in
+    let v = value-step e r q _ _ (t .before .before .lay .ensures) (t .if1 .left) (sizes s) (now (a .out) ∷ []) _ _ _ _ _ (d .own-c .ensures) _ _ (λ w. (ap (λ (l : List ℕ). getD l 0 0) (w .told-is), second-none e r q refl)) in
     (c .answer .ensures ∙ v .0, v .1, ap (λ (l : List (List ℕ)). getD l 0 []) (v .2))
 
 pub own-c-spec : {M : Type 1} → statement M

@@ -7,10 +7,11 @@ use lib.ListN.{length, take}
 use denote.Ref.{now}
 use native.Mathlib.Omega.{arith}
 use Rattle.limits.specs.Limits.{roomLeast}
+use Rattle.buffers.specs.Bytes.{laid}
 use Rattle.secret.specs.Secret.{kept}
 use Rattle.exchange.specs.Causes.{methodOk, kOf, hOf}
 use Rattle.exchange.specs.Steps.{secret, kRecord, fedCause}
-use Rattle.stored.specs.Stored.{decoded}
+use Rattle.stored.specs.Stored.{decoded, bySize}
 use Rattle.lent.proofs.LentLaws.{number-lent, call-refused, call-accepted, Opened, opened}
 use Rattle.stored.proofs.StoredLaws.{method-read}
 use Rattle.lent_steps.proofs.SecretStepLaws.{SecretFits, secret-fits, key-kept, Done, secret-done}
@@ -44,7 +45,7 @@ key c =
     key-kept _ (c .key-of .result) (fit (c .before) .k-fits) (c .key-of .ensures ∙ ap (λ (m : ℕ). kept (kOf m (now (a .x)) (now (a .k-pq)))) (method-is (c .before)))
 
 -- so all is as the step has it, and the count is small
-done : (c : tie.After-tell-arg) →
+done : (c : tie.After-join-hash-arg) →
     let a = c .before .before .before .before .before .before .before .before .before .before .before .before .before .before .before .before .before .before .before .before .before .before .before .before .before .before .before .before .before .before .before .args in
     let n = c .before .before .before .before .before .join-key .result + c .before .before .before .before .before .before .before .before .before .before .before .before .before .before .before .key-of .result .len in
     Done (now (a .ex)) (now (a .room)) (a .cl) (now (a .x)) (a .kem) (now (a .k-pq)) (now (a .ks)) (now (a .s)) (accepts (c .before .before .before .before .before .before .before .before .before .before .before .before .before .before .before .before)) n (c .before .before .before .before .before .join-key .last .1 .0) (c .before .before .before .before .before .join-key .last .0) × (n ≤ roomLeast)
@@ -64,7 +65,7 @@ done c =
     })
 
 -- in a room as long as it was
-same-room : (c : tie.After-tell-arg) → length (c .before .before .before .before .before .join-key .last .1 .0) ≡ length (now (c .before .before .before .before .before .before .before .before .before .before .before .before .before .before .before .before .before .before .before .before .before .before .before .before .before .before .before .before .before .before .before .args .room))
+same-room : (c : tie.After-join-hash-arg) → length (c .before .before .before .before .before .join-key .last .1 .0) ≡ length (now (c .before .before .before .before .before .before .before .before .before .before .before .before .before .before .before .before .before .before .before .before .before .before .before .before .before .before .before .before .before .before .before .args .room))
 same-room c = search needs
 
 byte-in-requires : tie.Need-byte-in-requires
@@ -107,12 +108,12 @@ join-own-requires c κs = search needs
 join-key-requires : tie.Need-join-key-requires
 join-key-requires c κs = search needs
 
-add-tell : tie.Need-add-tell
-add-tell c = let w = done c .1 in record { fits = omega arith }
+add-join-hash : tie.Need-add-join-hash
+add-join-hash c = let w = done (c .before) .1 in record { fits = omega arith }
 
-tell-requires : tie.Need-tell-requires
-tell-requires c κs =
-    let t = c .before .before in
+join-hash-requires : tie.Need-join-hash-requires
+join-hash-requires c κs =
+    let t = c .before .before .before in
     let f = fit (t .before .before .before .before .before .before .before .before .before .before .before .before .before .before .before .before) in
     let w = done t .1 in
     (ap methodOk (method-is (t .before .before .before .before .before .before .before .before .before .before .before .before .before .before .before .before)) ∙ f .method-ok, omega (arith, w, f .room-least, same-room t), omega (arith, w))
@@ -125,13 +126,16 @@ same-length-4 c = search needs
 
 returns-2 : tie.Need-returns-2
 returns-2 c =
-    let t = c .before .before .before in
+    let t = c .before .before .before .before .before .before in
     let a = t .before .before .before .before .before .before .before .before .before .before .before .before .before .before .before .before .before .before .before .before .before .before .before .before .before .before .before .before .before .before .before .args in
     let o = accepts (t .before .before .before .before .before .before .before .before .before .before .before .before .before .before .before .before) in
     let d = done t .0 in
     let n = t .before .before .before .before .before .join-key .result + t .before .before .before .before .before .before .before .before .before .before .before .before .before .before .before .key-of .result .len in
-    let h = c .tell .ensures ∙ ap (λ (m : ℕ). n ∷ hOf m (take n (t .before .before .before .before .before .join-key .last .1 .0))) (method-is (t .before .before .before .before .before .before .before .before .before .before .before .before .before .before .before .before)) ∙ d .told in
-    call-accepted (now (a .ex)) (now (a .room)) (secret (a .cl) (now (a .x)) (a .kem) (now (a .k-pq)) (now (a .ks)) (now (a .s))) [] (o .fitting) (o .accepts) _ _ _ _ h (d .ex-is) (d .room-is) refl
+    let r = t .before .before .before .before .before .join-key .last .1 .0 in
+    let b = t .before .before .before .before .before .join-key .last .0 in
+    let h = c .before .before .join-hash .ensures .0 ∙ ap (λ (m : ℕ). n ∷ hOf m (take n r)) (method-is (t .before .before .before .before .before .before .before .before .before .before .before .before .before .before .before .before)) ∙ d .told in
+    let x = d .ex-is _ (c .before .before .join-hash .ensures .1 ∙ ap (λ (m : ℕ). bySize b (laid b 90 (hOf m (take n r))) b) (method-is (t .before .before .before .before .before .before .before .before .before .before .before .before .before .before .before .before))) in
+    call-accepted (now (a .ex)) (now (a .room)) (secret (a .cl) (now (a .x)) (a .kem) (now (a .k-pq)) (now (a .ks)) (now (a .s))) [] (o .fitting) (o .accepts) _ _ _ _ h x (d .room-is) refl
 
 pub take-secret-spec : {M : Type 1} → statement M
 take-secret-spec =
@@ -148,8 +152,8 @@ take-secret-spec =
     key-of-requires
     join-own-requires
     join-key-requires
-    add-tell
-    tell-requires
+    add-join-hash
+    join-hash-requires
     same-length-3
     same-length-4
     returns-2)

@@ -5,11 +5,10 @@ use mathlib.Core.Path.{_≡_, refl, ap, _∙_}
 use mathlib.Core.List.{List, []}
 use lib.ListN.{length, getD, drop}
 use denote.Ref.{now}
-use Rattle.limits.specs.Limits.{kSize}
 use Rattle.exchange.specs.Steps.{secret, secretAnswered, countOf, secondOf}
 use Rattle.exchange.proofs.StepLaws.{handed-refused}
 use Rattle.lent.specs.Lent.{tells}
-use Rattle.by_value.proofs.ValueLaws.{value-long, value-step, value-told, second-none}
+use Rattle.by_value.proofs.ValueLaws.{Sized, value-long, value-step, value-told, second-none}
 use Rattle.steps.proofs.take_secret.Statement.{statement}
 use Rattle.steps.proofs.take_secret.Tie as tie
 
@@ -49,8 +48,8 @@ answer-requires c κs = search needs
 same-length : tie.Need-same-length
 same-length c = search needs
 
-k-size : (c : tie.Start) → length (c .args .e .k) ≡ kSize
-k-size c = search needs
+sizes : (c : tie.Start) → Sized (c .args .e)
+sizes c = (search needs, search needs)
 
 returns-2 : tie.Need-returns-2
 unfolding tells countOf secondOf secretAnswered
@@ -63,9 +62,9 @@ returns-2 c =
     let r = now (a .room) in
     let q = secret (a .cl) (now (a .x)) (a .kem) (now (a .k-pq)) (now (a .ks)) (now (a .s)) in
     let l = t .before .before .lay .ensures in
-    let v = value-step e r q _ _ l (t .if1 .left) (k-size s) [] _ _ _ _ _ (d .take-secret .ensures) _ _ (λ w. (ap (λ (n : List ℕ). getD n 0 0) (w .told-is), second-none e r q refl)) in
+    let v = value-step e r q _ _ l (t .if1 .left) (sizes s) [] _ _ _ _ _ (d .take-secret .ensures) _ _ (λ w. (ap (λ (n : List ℕ). getD n 0 0) (w .told-is), second-none e r q refl)) in
     let w = c .answer .ensures ∙ v .0 in
-    let h = ap (λ (n : List ℕ). drop 1 n) (value-told e r q _ _ l (t .if1 .left) (k-size s) [] _ _ _ _ _ (d .take-secret .ensures)) in
+    let h = ap (λ (n : List ℕ). drop 1 n) (value-told e r q _ _ l (t .if1 .left) (sizes s) [] _ _ _ _ _ (d .take-secret .ensures)) in
     ((λ i. record { step = w i; h = h i }), v .1)
 
 pub take-secret-spec : {M : Type 1} → statement M

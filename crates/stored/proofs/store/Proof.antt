@@ -6,10 +6,10 @@ use mathlib.Core.List.{List, _∷_, _++_}
 use native.Mathlib.Omega.{arith}
 use lib.ListN.{length, drop}
 use denote.Ref.{now}
-use Rattle.limits.specs.Limits.{kSize, exchangeMark}
+use Rattle.limits.specs.Limits.{kSize, hSize, exchangeMark}
 use Rattle.buffers.specs.Bytes.{laid}
 use Rattle.stored.specs.Stored.{headOf, encoded}
-use Rattle.stored.proofs.StoredLaws.{laid-two, size-taken, size-left}
+use Rattle.stored.proofs.StoredLaws.{laid-three, size-taken, size-left}
 use Rattle.stored.proofs.store.Statement.{statement}
 use Rattle.stored.proofs.store.Tie as tie
 
@@ -22,47 +22,47 @@ stage-number-requires c κs = search needs
 fail-number-requires : tie.Need-fail-number-requires
 fail-number-requires c κs = search needs
 
-cast-t12 : tie.Need-cast-t12
-cast-t12 c = search needs
+cast-t13 : tie.Need-cast-t13
+cast-t13 c = search needs
 
-cast-t14 : tie.Need-cast-t14
-cast-t14 c = search needs
+cast-t15 : tie.Need-cast-t15
+cast-t15 c = search needs
 
-cast-t17 : tie.Need-cast-t17
-cast-t17 c = search needs
+cast-t18 : tie.Need-cast-t18
+cast-t18 c = search needs
 
-cast-t19 : tie.Need-cast-t19
-cast-t19 c = search needs
+cast-t20 : tie.Need-cast-t20
+cast-t20 c = search needs
 
-cast-t22 : tie.Need-cast-t22
-cast-t22 c = search needs
+cast-t23 : tie.Need-cast-t23
+cast-t23 c = search needs
 
-cast-t24 : tie.Need-cast-t24
-cast-t24 c = search needs
+cast-t25 : tie.Need-cast-t25
+cast-t25 c = search needs
 
-cast-t27 : tie.Need-cast-t27
-cast-t27 c = search needs
+cast-t28 : tie.Need-cast-t28
+cast-t28 c = search needs
 
-cast-t29 : tie.Need-cast-t29
-cast-t29 c = search needs
+cast-t30 : tie.Need-cast-t30
+cast-t30 c = search needs
 
-cast-t32 : tie.Need-cast-t32
-cast-t32 c = search needs
+cast-t33 : tie.Need-cast-t33
+cast-t33 c = search needs
 
-cast-t34 : tie.Need-cast-t34
-cast-t34 c = search needs
+cast-t35 : tie.Need-cast-t35
+cast-t35 c = search needs
 
-cast-t37 : tie.Need-cast-t37
-cast-t37 c = search needs
+cast-t38 : tie.Need-cast-t38
+cast-t38 c = search needs
 
-cast-t39 : tie.Need-cast-t39
-cast-t39 c = search needs
+cast-t40 : tie.Need-cast-t40
+cast-t40 c = search needs
 
-cast-t42 : tie.Need-cast-t42
-cast-t42 c = search needs
+cast-t43 : tie.Need-cast-t43
+cast-t43 c = search needs
 
-cast-t44 : tie.Need-cast-t44
-cast-t44 c = search needs
+cast-t45 : tie.Need-cast-t45
+cast-t45 c = search needs
 
 slice-aggregate-put-bytes : tie.Need-slice-aggregate-put-bytes
 slice-aggregate-put-bytes c = search needs
@@ -78,22 +78,32 @@ slice-aggregate-put-bytes-2 c =
 put-bytes-requires-2 : tie.Need-put-bytes-requires-2
 put-bytes-requires-2 c κs = search needs
 
+slice-aggregate-put-bytes-3 : tie.Need-slice-aggregate-put-bytes-3
+slice-aggregate-put-bytes-3 c =
+    let l : length (c .before .before .before .before .before .before .before .before .before .before .before .before .before .before .before .before .before .before .before .before .before .before .before .before .before .before .before .before .before .before .before .before .before .args .x .h) ≡ hSize = search (needs, c .before .before .before .before .before .before .before .before .before .before .before .before .before .before .before .before .before .before .before .before .before .before .before .before .before .before .before .before .before .before .before .before .before .good .1 .0) in
+    sym l
+
+put-bytes-requires-3 : tie.Need-put-bytes-requires-3
+put-bytes-requires-3 c κs = search needs
+
 same-length : tie.Need-same-length
 same-length c = search needs
 
 returns-2 : tie.Need-returns-2
 unfolding encoded
 returns-2 c =
-    let x = c .before .before .before .before .before .before .before .before .before .before .before .before .before .before .before .before .before .before .before .before .before .before .before .before .before .before .before .before .before .before .args .x in
-    let b = now (c .before .before .before .before .before .before .before .before .before .before .before .before .before .before .before .before .before .before .before .before .before .before .before .before .before .before .before .before .before .before .args .b) in
-    let l : length (x .k) ≡ kSize = search (needs, c .before .before .before .before .before .before .before .before .before .before .before .before .before .before .before .before .before .before .before .before .before .before .before .before .before .before .before .before .before .before .good .1 .0) in
-    let m = c .before .before .before .before .before .before .before .before .before .before .before .before .before .before .before .before .before .before .before .before .before .before .before .before .before .stage-number .ensures in
-    let n = c .before .before .before .before .before .before .before .before .before .before .before .before .before .before .before .before .before .before .before .before .before .before .before .before .fail-number .ensures in
-    c .before .before .put-bytes2 .ensures
-    ∙ ap (λ (a : List ℕ). laid a 19 (x .k)) (c .before .before .before .before .before .before .before .put-bytes .ensures)
-    ∙ laid-two b _ (x .k) 19 refl (omega (arith, c .before .before .before .before .before .before .before .before .before .before .before .before .before .before .before .before .before .before .before .before .before .before .before .before .before .before .before .before .if1 .left))
-    ∙ (λ i. exchangeMark ∷ m i ∷ n i ∷ drop 3 (headOf x) ++ x .k)
-    ∙ size-taken b b (encoded x) (c .before .before .before .before .before .before .before .before .before .before .before .before .before .before .before .before .before .before .before .before .before .before .before .before .before .before .before .before .if1 .left)
+    let x = c .before .before .before .before .before .before .before .before .before .before .before .before .before .before .before .before .before .before .before .before .before .before .before .before .before .before .before .before .before .before .before .before .before .before .before .before .args .x in
+    let b = now (c .before .before .before .before .before .before .before .before .before .before .before .before .before .before .before .before .before .before .before .before .before .before .before .before .before .before .before .before .before .before .before .before .before .before .before .before .args .b) in
+    let k : length (x .k) ≡ kSize = search (needs, c .before .before .before .before .before .before .before .before .before .before .before .before .before .before .before .before .before .before .before .before .before .before .before .before .before .before .before .before .before .before .before .before .before .before .before .before .good .1 .0) in
+    let h : length (x .h) ≡ hSize = search (needs, c .before .before .before .before .before .before .before .before .before .before .before .before .before .before .before .before .before .before .before .before .before .before .before .before .before .before .before .before .before .before .before .before .before .before .before .before .good .1 .0) in
+    let m = c .before .before .before .before .before .before .before .before .before .before .before .before .before .before .before .before .before .before .before .before .before .before .before .before .before .before .before .before .before .before .before .stage-number .ensures in
+    let n = c .before .before .before .before .before .before .before .before .before .before .before .before .before .before .before .before .before .before .before .before .before .before .before .before .before .before .before .before .before .before .fail-number .ensures in
+    let z = c .before .before .before .before .before .before .before .before .before .before .before .before .before .before .before .before .before .before .before .before .before .before .before .before .before .before .before .before .before .before .before .before .before .before .if1 .left in
+    c .before .before .put-bytes3 .ensures
+    ∙ ap (λ (a : List ℕ). laid a 90 (x .h)) (c .before .before .before .before .before .before .before .before .put-bytes2 .ensures ∙ ap (λ (a : List ℕ). laid a 19 (x .k)) (c .before .before .before .before .before .before .before .before .before .before .before .before .before .put-bytes .ensures))
+    ∙ laid-three b _ (x .k) (x .h) 19 90 refl (omega (arith, k)) (omega (arith, z, h))
+    ∙ (λ i. exchangeMark ∷ m i ∷ n i ∷ drop 3 (headOf x) ++ x .k ++ x .h)
+    ∙ size-taken b b (encoded x) z
 
 pub store-spec : {M : Type 1} → statement M
 store-spec =
@@ -102,23 +112,25 @@ store-spec =
     returns
     stage-number-requires
     fail-number-requires
-    cast-t12
-    cast-t14
-    cast-t17
-    cast-t19
-    cast-t22
-    cast-t24
-    cast-t27
-    cast-t29
-    cast-t32
-    cast-t34
-    cast-t37
-    cast-t39
-    cast-t42
-    cast-t44
+    cast-t13
+    cast-t15
+    cast-t18
+    cast-t20
+    cast-t23
+    cast-t25
+    cast-t28
+    cast-t30
+    cast-t33
+    cast-t35
+    cast-t38
+    cast-t40
+    cast-t43
+    cast-t45
     slice-aggregate-put-bytes
     put-bytes-requires
     slice-aggregate-put-bytes-2
     put-bytes-requires-2
+    slice-aggregate-put-bytes-3
+    put-bytes-requires-3
     same-length
     returns-2)

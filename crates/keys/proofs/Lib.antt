@@ -1,0 +1,3 @@
+pub mod KeyLaws
+pub mod CodeLaws
+pub mod DeriveLaws
