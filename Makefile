@@ -20,11 +20,12 @@ demo: dock
 test:
 	@sh tests/gate.sh
 
-# What the programs read and what they must print, held to the captures and to an account of the documents of its own.
+# What the programs read and what they must print, held to the captures, to published digests and keys, and to an account of the documents of its own.
 vectors:
 	python3 tests/expect_views.py --check
 	python3 tests/expect_in_place.py --check
 	python3 tests/expect_sha2.py --check
+	python3 tests/expect_keys.py --check
 
 # The static library, for speed and for size: proved first (some five minutes from nothing), and left alone where nothing that it is made
 # of changed. TARGET names another machine to build it for, one of TARGETS or several; those archives go into build/TARGET/.

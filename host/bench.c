@@ -1,6 +1,6 @@
 /* The bench: reads calls from standard input, one a line, makes them through the boundary and prints an answer line for each, so
    that the library can be held against another implementation given the same script. What it prints comes out of the library;
-   the only answers of its own are the 0 of room, poke, set, blank and shaset, which are no calls of the library. */
+   the only answers of its own are the 0 of room, poke, set, put, blank and shaset, which are no calls of the library. */
 #define _POSIX_C_SOURCE 200809L
 #include "castulfrisa.h"
 #include <inttypes.h>
@@ -15,9 +15,12 @@
 #define LENGTHS 7      /* the recorded lengths, l0 to l6 */
 
 /* The bytes of an exchange. A host has no business with them; here they are forged and shown. */
-enum { MARK_AT = 0, STAGE_AT = 1, FAIL_AT = 2, ROLE_AT = 3, METHOD_AT = 4, LENGTHS_AT = 5, K_AT = LENGTHS_AT + 2 * LENGTHS };
-_Static_assert(K_AT + CASTULFRISA_K == CASTULFRISA_EXCHANGE, "the exchange's bytes");
-#define MARK 1                 /* of this layout: bytes with another mark are no exchange's */
+enum {
+    MARK_AT = 0, STAGE_AT = 1, FAIL_AT = 2, ROLE_AT = 3, METHOD_AT = 4, LENGTHS_AT = 5, K_AT = LENGTHS_AT + 2 * LENGTHS,
+    H_AT = K_AT + CASTULFRISA_K
+};
+_Static_assert(H_AT + CASTULFRISA_H_SIZE == CASTULFRISA_EXCHANGE, "the exchange's bytes");
+#define MARK 2                 /* of this layout: bytes with another mark are no exchange's */
 #define LENGTH_MOST UINT16_MAX /* the most that a recorded length's two bytes hold */
 
 /* Those of a hash, likewise: its kind, and two numbers of eight bytes, the bytes fed in all and those that wait. */
@@ -230,7 +233,7 @@ static void set_length(size_t i, uint64_t n)
     at[1] = (uint8_t)n;
 }
 
-/* What a step is handed: the exchange; but where a length is above what its bytes hold, so that no exchange has it, other bytes that no
+/* What a call is handed: the exchange; but where a length is above what its bytes hold, so that no exchange has it, other bytes that no
    exchange has, for the library to refuse. */
 static uint8_t *handed(void)
 {
@@ -255,6 +258,8 @@ static void put_exchange(void)
     for (size_t i = 0; i < LENGTHS; i++) printf("%c%" PRIu64, i == 0 ? '.' : ',', length(i));
     fputs(" k=", stdout);
     put_digest(exchange + K_AT, CASTULFRISA_K);
+    fputs(" h=", stdout);
+    put_digest(exchange + H_AT, CASTULFRISA_H_SIZE);
     fputs(" room=", stdout);
     put_digest(room.at, room.len);
 }
@@ -462,8 +467,20 @@ static void call_set(char **t)
     else if (strcmp(field, "fail") == 0) fail = byte(value);
     else if (field[0] == 'l') set_length(place(field + 1, LENGTHS), number(value, UINT64_MAX));
     else if (field[0] == 'k') exchange[K_AT + place(field + 1, CASTULFRISA_K)] = byte(value);
+    else if (field[0] == 'h') exchange[H_AT + place(field + 1, CASTULFRISA_H_SIZE)] = byte(value);
     else bad("unknown field");
     exchange[FAIL_AT] = exchange[STAGE_AT] == CASTULFRISA_FAILED ? fail : 0;
+    put_number(0);
+}
+
+static void call_put(char **t)
+{
+    static const char *const fields[] = {"k", "h"};
+    static const struct { size_t at, len; } places[] = {{K_AT, CASTULFRISA_K}, {H_AT, CASTULFRISA_H_SIZE}};
+    size_t field = word(t[1], fields, COUNT(fields), "unknown field");
+    bytes b = lend(t[2]);
+    if (b.len > places[field].len) bad("put past the field's end");
+    if (b.len > 0) memcpy(exchange + places[field].at, b.at, b.len);
     put_number(0);
 }
 
@@ -577,6 +594,16 @@ static void call_verdict(char **t)
     put_out(k_out);
 }
 
+/* ---- keys, by a call that is no step */
+
+static void call_derive(char **t)
+{
+    uint64_t letter = byte(t[1]), length = number(t[2], UINT64_MAX);
+    bytes key = lend(t[3]);
+    put_number(castulfrisa_derive(handed(), CASTULFRISA_EXCHANGE, letter, length, key.at, key.len));
+    put_out(key);
+}
+
 /* ---- lines */
 
 static const struct call {
@@ -601,6 +628,7 @@ static const struct call {
     {"room", 2, call_room, true},
     {"poke", 3, call_poke, true},
     {"set", 3, call_set, true},
+    {"put", 3, call_put, true},
     {"blank", 1, call_blank, true},
     {"start", 7, call_start, true},
     {"ownc", 3, call_ownc, true},
@@ -609,6 +637,7 @@ static const struct call {
     {"secret", 7, call_secret, true},
     {"sign", 4, call_sign, true},
     {"verdict", 4, call_verdict, true},
+    {"derive", 4, call_derive, true},
 };
 
 static const struct call *find(const char *name)

@@ -1,6 +1,6 @@
 /* A client and a server complete one key exchange in one process, with curve25519-sha256 and an ssh-ed25519 host key, on OpenSSL's
-   libcrypto: the calls in their order, what goes in between, every number looked at, and what is wiped. Buffers stand for the network;
-   dock/ is a host over sockets. */
+   libcrypto, and derive their keys: the calls in their order, what goes in between, every number looked at, and what is wiped. Buffers stand
+   for the network; dock/ is a host over sockets. */
 #include "castulfrisa.h"
 #include <openssl/crypto.h>
 #include <openssl/evp.h>
@@ -15,12 +15,15 @@
 #define EXCHANGE(a) (a)->exchange, sizeof (a)->exchange
 #define ROOM(a) (a)->room, sizeof (a)->room
 
+/* The keys of one direction, as long as aes256-ctr and hmac-sha2-256 want them. */
+struct keys { uint8_t iv[16], cipher[32], mac[32]; };
+
 /* What one side keeps of an exchange: one place, no copies, wiped as a whole. */
 struct side {
     uint8_t exchange[CASTULFRISA_EXCHANGE], room[CASTULFRISA_ROOM];
     EVP_PKEY *own; /* the ephemeral key */
     uint8_t x[32], h[CASTULFRISA_H_SIZE], k[CASTULFRISA_K];
-    uint64_t k_len;
+    struct keys c2s, s2c;
 };
 
 struct message { uint8_t bytes[CASTULFRISA_REPLY]; uint64_t len; };
@@ -132,8 +135,8 @@ static int start(struct side *a, uint64_t role)
                                                i_s.len, ROOM(a)));
 }
 
-/* ---- the dance: INIT, REPLY, and the verdict. From the secret step on each call leaves K on the stack, accepted or not: what makes one
-   of them wipes it. */
+/* ---- the dance: INIT, REPLY, the verdict, and the keys. From the secret step on each call leaves K on the stack, accepted or not: what makes
+   one of them wipes it. */
 
 static int client_begins(struct side *a)
 {
@@ -168,7 +171,6 @@ static int server_answers(struct side *a)
     number = castulfrisa_sign(EXCHANGE(a), ROOM(a), blob, blob_len, reply.bytes, sizeof reply.bytes, a->k, sizeof a->k, &counts);
     castulfrisa_wipe_stack();
     reply.len = counts.reply;
-    a->k_len = counts.k;
     return accepted("sign", number);
 }
 
@@ -180,7 +182,7 @@ static int verdict(struct side *a, const castulfrisa_reply *parts)
     const uint8_t *signature = read_blob(reply.bytes + parts->signature.start, parts->signature.len, 64);
     uint64_t holds = key != NULL && signature != NULL && verify(key, signature, a->h) ? 1 : 0;
     uint64_t is_known = parts->host_key.len == known_len && memcmp(ks, known, known_len) == 0 ? 1 : 0;
-    uint64_t number = castulfrisa_verdict(EXCHANGE(a), ROOM(a), holds, is_known, a->k, sizeof a->k, &a->k_len);
+    uint64_t k_len, number = castulfrisa_verdict(EXCHANGE(a), ROOM(a), holds, is_known, a->k, sizeof a->k, &k_len);
     castulfrisa_wipe_stack();
     return accepted("verdict", number);
 }
@@ -192,7 +194,26 @@ static int client_ends(struct side *a)
         && take_secret(a, reply.bytes + parts.s.start, parts.s.len, NULL, 0, NULL, 0) && verdict(a, &parts);
 }
 
-/* Exchange, room, X, H and K; libcrypto clears a private key that it frees. */
+/* The six keys, of the complete exchange alone: what else holds K, or what K is made of, is wiped first, and the exchange behind the last key. */
+static int derive(struct side *a)
+{
+    const struct { uint64_t letter; uint8_t *key; uint64_t len; } six[] = {
+        {CASTULFRISA_IV_C2S, a->c2s.iv, sizeof a->c2s.iv}, {CASTULFRISA_IV_S2C, a->s2c.iv, sizeof a->s2c.iv},
+        {CASTULFRISA_CIPHER_KEY_C2S, a->c2s.cipher, sizeof a->c2s.cipher}, {CASTULFRISA_CIPHER_KEY_S2C, a->s2c.cipher, sizeof a->s2c.cipher},
+        {CASTULFRISA_MAC_KEY_C2S, a->c2s.mac, sizeof a->c2s.mac}, {CASTULFRISA_MAC_KEY_S2C, a->s2c.mac, sizeof a->s2c.mac}};
+    uint64_t number = CASTULFRISA_OK;
+    size_t i;
+    castulfrisa_wipe(ROOM(a));
+    castulfrisa_wipe(a->x, sizeof a->x);
+    castulfrisa_wipe(a->k, sizeof a->k);
+    for (i = 0; i < 6 && number == CASTULFRISA_OK; i++)
+        number = castulfrisa_derive(EXCHANGE(a), six[i].letter, six[i].len, six[i].key, six[i].len);
+    castulfrisa_wipe(EXCHANGE(a));
+    castulfrisa_wipe_stack();
+    return accepted("derive", number);
+}
+
+/* Whatever of it is still there, H and the keys too; libcrypto clears a private key that it frees. */
 static void wipe(struct side *a)
 {
     EVP_PKEY_free(a->own);
@@ -208,10 +229,12 @@ int main(void)
     good = good && draw(&host_key, "ED25519", value) && write_blob(known, sizeof known, value, sizeof value, &known_len);
     good = good && write_kexinit(&i_c) && write_kexinit(&i_s);
     good = good && client_begins(&client) && server_answers(&server) && client_ends(&client);
+    good = good && derive(&client) && derive(&server);
 
-    /* here a host derives its keys from K, H and the session identifier (RFC 4253, 7.2); this one compares */
-    good = good && client.k_len > 4 && client.k_len == server.k_len && CRYPTO_memcmp(client.k, server.k, sizeof client.k) == 0
-        && CRYPTO_memcmp(client.h, server.h, sizeof client.h) == 0;
+    /* here a host hands its keys to its cipher and its MAC, and keeps H as the session identifier; this one compares */
+    good = good && CRYPTO_memcmp(&client.c2s, &server.c2s, sizeof client.c2s) == 0
+        && CRYPTO_memcmp(&client.s2c, &server.s2c, sizeof client.s2c) == 0
+        && CRYPTO_memcmp(&client.c2s, &client.s2c, sizeof client.c2s) != 0 && CRYPTO_memcmp(client.h, server.h, sizeof client.h) == 0;
     wipe(&client);
     wipe(&server);
     EVP_PKEY_free(host_key);

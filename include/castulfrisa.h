@@ -1,9 +1,9 @@
 /* castulfrisa: the key-exchange core of SSH, as one static library: libcastulfrisa.a for speed, or libcastulfrisa-small.a for size. C99 and
    C++, 32 and 64 bits.
 
-   It reads and writes the messages, negotiates, encodes the shared secret, builds the hash input and hashes it. Random numbers, curve and
-   KEM primitives, signatures and known-host lists are the host's; so are memcpy, memmove and memset, which the library calls. It keeps nothing: no
-   memory, no pointer, no state. It takes any bytes and any call at any time, and every call ends.
+   It reads and writes the messages, negotiates, encodes the shared secret, builds the hash input, hashes it and derives the keys. Random numbers,
+   curve and KEM primitives, signatures and known-host lists are the host's; so are memcpy, memmove and memset, which the library calls. It keeps
+   nothing: no memory, no pointer, no state. It takes any bytes and any call at any time, and every call ends.
 
    WHAT CROSSES
    - Buffers as a pointer and a 64-bit length in bytes, 64-bit numbers, pointers to 64-bit numbers that the call fills in, and to the 64
@@ -14,8 +14,8 @@
      digest is never NULL.
    - Every buffer stays the caller's. `const` buffers are read and never written. What is written, buffer or numbers, shares no byte with
      anything else of the same call; and while a call runs, nobody else writes what it was lent or reads what it writes.
-   - An output is written from its first byte on. Bytes past those that are counted stay as they were; but the output for K gets all
-     CASTULFRISA_K bytes, zeros after K.
+   - An output is written from its first byte on. Bytes past those that are counted, or of a key asked for, stay as they were; but the output
+     for K gets all CASTULFRISA_K bytes, zeros after K.
    - H and a digest have CASTULFRISA_H_SIZE bytes, which every answer writes: zeros after the digest, all zeros on a refusal.
 
    ANSWERS
@@ -33,14 +33,16 @@
      Bytes that no exchange has, and buffers of another length, are answered 1 and stay.
    - The room is the caller's buffer of at least CASTULFRISA_ROOM bytes, the same at every call of one exchange and no other's, and nobody
      writes to it in between. It begins with the fields of the hash input so far.
-   - From the secret step on, exchange and room hold the shared secret. The library wipes both on a peer's fault only: when the keys are
-     derived, castulfrisa_wipe them, and castulfrisa_wipe_stack what the calls left below them.
+   - From the secret step on the exchange holds K and H, and the room K. A complete exchange is all that the keys are derived from: room and K
+     output may be wiped when it is complete, the exchange when castulfrisa_derive gave the last key. The library wipes exchange and room on a peer's
+     fault only: castulfrisa_wipe them, the K output and the keys, and castulfrisa_wipe_stack what the calls left below them.
 
    A HASH
    - It is a buffer of CASTULFRISA_HASH_SIZE bytes, the caller's, which only the library reads and writes: castulfrisa_hash_start makes it,
      castulfrisa_hash_feed changes it in place. A copy is a hash of its own. castulfrisa_hash_feed and castulfrisa_hash_finish judge its kind
      and the two lengths in it: a buffer where they do not fit is answered 4 and stays, as is one of another length by every call. It holds
-     bytes of what it was fed: castulfrisa_wipe it where they are secret. An exchange needs none: castulfrisa_take_secret hands out H. */
+     bytes of what it was fed: castulfrisa_wipe it where they are secret. An exchange needs none: castulfrisa_take_secret hands out H, and
+     castulfrisa_derive the keys. */
 #ifndef CASTULFRISA_H
 #define CASTULFRISA_H
 
@@ -52,7 +54,7 @@ extern "C" {
 
 /* The number of this header. castulfrisa_version() tells the archive's: where the two differ, they are of different days. It goes up
    by one where an entry or a size changes. */
-#define CASTULFRISA_VERSION 3
+#define CASTULFRISA_VERSION 4
 
 #if defined(__GNUC__)
 #define CASTULFRISA_MUST_USE __attribute__((warn_unused_result))
@@ -69,7 +71,7 @@ extern "C" {
 
 /* ---- sizes, in bytes */
 
-#define CASTULFRISA_EXCHANGE 90        /* the exchange, exactly */
+#define CASTULFRISA_EXCHANGE 154       /* the exchange, exactly */
 #define CASTULFRISA_ROOM 14156         /* the room, at least */
 #define CASTULFRISA_INIT 1670          /* the output for INIT, at least, in every method */
 #define CASTULFRISA_REPLY 5774         /* the output for REPLY, at least, in every method */
@@ -82,6 +84,7 @@ extern "C" {
 #define CASTULFRISA_X_MOST 66          /* the classical output X of any method */
 #define CASTULFRISA_K_PQ_SIZE 32       /* the KEM's output K_PQ, exactly, in methods 7 to 9 */
 #define CASTULFRISA_H_SIZE 64          /* H, and a digest, exactly: the digest's own bytes, then zeros */
+#define CASTULFRISA_KEY_MOST 128       /* a key: 1 to this */
 #define CASTULFRISA_HASH_SIZE 209      /* a hash, exactly */
 #define CASTULFRISA_HASH_MOST 65536    /* what one hash is fed in all */
 #define CASTULFRISA_COOKIE 16          /* a KEXINIT's cookie */
@@ -98,15 +101,17 @@ extern "C" {
    1 to 5 and 19 to 22: nothing changes, neither exchange, room, hash nor output; but a refused start leaves a failed exchange, or a hash of
    no kind, and H and a digest become zeros.
    10 to 18 in a step are a peer's fault: the whole room becomes zeros and the exchange has failed for good with that number; of it only
-   role, method and number are left, no length and no K. Outputs stay, H becomes zeros. Where there is no exchange (strings, mpints,
+   role, method and number are left, no length, no K and no H. Outputs stay, H becomes zeros. Where there is no exchange (strings, mpints,
    KEXINIT, choice) 10 to 13 change nothing. */
 
 enum castulfrisa_number {
     CASTULFRISA_OK = 0,                  /* accepted */
-    CASTULFRISA_NOT_DUE = 1,             /* the step is not due, also when complete or failed; or the bytes are no exchange's */
+    CASTULFRISA_NOT_DUE = 1,             /* the call is not due: a step out of turn, also when complete or failed, or a key of an exchange that
+                                            is not complete; or the bytes are no exchange's */
     CASTULFRISA_NO_METHOD = 2,           /* method not 1 to 9, or role neither client nor server */
     CASTULFRISA_SHORT_ROOM = 3,          /* room too short */
-    CASTULFRISA_BAD_INPUT = 4,           /* a field, outcome, K_PQ or hash handed in has a wrong length or form, or a hash would be fed too much */
+    CASTULFRISA_BAD_INPUT = 4,           /* a field, outcome, K_PQ or hash handed in has a wrong length or form, a hash would be fed too much, or
+                                            no key has that letter or length */
     CASTULFRISA_SHORT_OUTPUT = 5,        /* an output too short */
     CASTULFRISA_PAYLOAD_SIZE = 10,       /* payload empty or too long */
     CASTULFRISA_MESSAGE = 11,            /* another message's number */
@@ -165,6 +170,16 @@ enum castulfrisa_kem { CASTULFRISA_KEM_ABSENT = 0, CASTULFRISA_KEM_FAILED = 1, C
 
 /* The kinds of hash: each is its digest's length. */
 enum castulfrisa_kind { CASTULFRISA_SHA256 = 32, CASTULFRISA_SHA384 = 48, CASTULFRISA_SHA512 = 64 };
+
+/* The six keys of RFC 4253, section 7.2, by their letters, A to F; c2s is client to server. */
+enum castulfrisa_letter {
+    CASTULFRISA_IV_C2S = 65,
+    CASTULFRISA_IV_S2C = 66,
+    CASTULFRISA_CIPHER_KEY_C2S = 67,
+    CASTULFRISA_CIPHER_KEY_S2C = 68,
+    CASTULFRISA_MAC_KEY_C2S = 69,
+    CASTULFRISA_MAC_KEY_S2C = 70
+};
 
 /* ---- what calls tell, each a run of 64-bit numbers */
 
@@ -318,8 +333,8 @@ CASTULFRISA_MUST_USE uint64_t castulfrisa_read_reply(
    k_pq    the KEM's CASTULFRISA_K_PQ_SIZE bytes where it is done, whatever the classical primitive did; empty where it is not.
    ks, s   a server's host key blob and own public value, also where a primitive failed; a client's are not looked at.
    h       becomes H: the method's hash of the room's first count bytes, as they stand behind this step.
-   K goes into the exchange and the room, in methods 7 to 9 the string of the method's hash of K_PQ and then X; a server's K_S goes into the
-   room ahead of C, its S behind it. Count: length of the hash input, which is the room's beginning.
+   K goes into the exchange and the room, in methods 7 to 9 the string of the method's hash of K_PQ and then X; H into the exchange; a server's
+   K_S goes into the room ahead of C, its S behind it. Count: length of the hash input, which is the room's beginning.
    1; 3; 4: one of the inputs, also any other number for kem; 16, 17: the primitives' failures, the peer's fault. */
 CASTULFRISA_MUST_USE uint64_t castulfrisa_take_secret(
     uint8_t *exchange, uint64_t exchange_len, uint8_t *room, uint64_t room_len,
@@ -345,7 +360,7 @@ CASTULFRISA_MUST_USE uint64_t castulfrisa_verdict(
     uint8_t *exchange, uint64_t exchange_len, uint8_t *room, uint64_t room_len,
     uint64_t signature, uint64_t host_key, uint8_t *k_out, uint64_t k_out_len, uint64_t *count);
 
-/* ---- calls on an exchange that are no steps: they tell, and change nothing */
+/* ---- calls on an exchange that are no steps: they tell, or derive a key, and change neither exchange nor room */
 
 /* What castulfrisa_read_init would answer, and where C stands in the INIT; {0, 0} for all that it would refuse. */
 CASTULFRISA_MUST_USE uint64_t castulfrisa_init_c(
@@ -364,8 +379,16 @@ CASTULFRISA_MUST_USE uint64_t castulfrisa_reply_signature(
     const uint8_t *payload, uint64_t payload_len, castulfrisa_part *signature);
 
 /* How far an exchange has come, what ended it, its role and its method, as the bytes have them. 1: the length, the mark, the stage or the
-   number that ended it is no exchange's, and all of it is 0. Whether the rest fits, the next step judges. */
+   number that ended it is no exchange's, and all of it is 0. Whether the rest fits, the next call judges. */
 CASTULFRISA_MUST_USE uint64_t castulfrisa_state(const uint8_t *exchange, uint64_t exchange_len, castulfrisa_progress *told);
+
+/* A key of a complete exchange, by RFC 4253, section 7.2, and by the method's hash: of K and H, which the exchange holds, of the key's letter (enum
+   castulfrisa_letter), and of the session identifier, which is H. `length` bytes of it go to the beginning of key: fewer are a beginning of what
+   more would be.
+   1: no exchange's bytes, not complete, or its role, method or a length in it does not fit; 4: letter, or a length not 1 to CASTULFRISA_KEY_MOST,
+   however long key is; 5: key shorter than the length. */
+CASTULFRISA_MUST_USE uint64_t castulfrisa_derive(
+    const uint8_t *exchange, uint64_t exchange_len, uint64_t letter, uint64_t length, uint8_t *key, uint64_t key_len);
 
 /* ---- hashes (FIPS 180-4), for what a host hashes besides */
 
@@ -390,7 +413,7 @@ CASTULFRISA_MUST_USE uint64_t castulfrisa_version(void);
 
 /* ---- in the header, so that they cost nothing where they are not used */
 
-/* Overwrites CASTULFRISA_STACK bytes of stack below the caller's frame, which must be there: K, K_PQ and X stay there in copies that the
+/* Overwrites CASTULFRISA_STACK bytes of stack below the caller's frame, which must be there: K, K_PQ, X and keys stay there in copies that the
    compiler made. Call it from the function that made the calls. For gcc and clang: another compiler may put it into the caller's own frame. */
 #if defined(__GNUC__)
 static CASTULFRISA_NOINLINE void castulfrisa_wipe_stack(void)
@@ -422,10 +445,10 @@ CASTULFRISA_MUST_USE static inline const char *castulfrisa_text(uint64_t number)
 {
     switch (number) {
     case CASTULFRISA_OK: return "accepted";
-    case CASTULFRISA_NOT_DUE: return "the step is not due, or the bytes lent for the exchange are none";
+    case CASTULFRISA_NOT_DUE: return "the call is not due, or the bytes lent for the exchange are none";
     case CASTULFRISA_NO_METHOD: return "there is no such method or role";
     case CASTULFRISA_SHORT_ROOM: return "the room is too short";
-    case CASTULFRISA_BAD_INPUT: return "a field, outcome, K_PQ or hash handed in has a wrong length or form, or a hash would be fed too much";
+    case CASTULFRISA_BAD_INPUT: return "a field, outcome, K_PQ or hash handed in has a wrong length or form, a hash would be fed too much, or no key has that letter or length";
     case CASTULFRISA_SHORT_OUTPUT: return "an output is too short";
     case CASTULFRISA_PAYLOAD_SIZE: return "the payload is empty or too long";
     case CASTULFRISA_MESSAGE: return "the payload is another message";

@@ -1,6 +1,6 @@
 #!/usr/bin/env python3
-"""The bench as a program: document 01's examples, hashes and the captured exchanges through it, each answer computed here, with Python's
-own SHA-2, and what it does with lines that are none.
+"""The bench as a program: document 01's examples, hashes, keys and the captured exchanges through it, each answer computed here, with Python's
+own SHA-2; published keys; the landings' examples (tests/examples); and what it does with lines that are none.
 
 usage: bench_test.py BENCH      (a program, or a command of several words: what runs it, and the program)
 """
@@ -10,7 +10,9 @@ import sys
 
 sys.dont_write_bytecode = True
 from captured import captures, string
+from held import ROOT
 from kexinit_cases import cases as kexinit_cases
+from published import METHODS, derived, of_records
 
 
 def run(bench, script, *words):
@@ -97,7 +99,7 @@ def hybrids():
         x, k_pq, own = b'\0\x80' + b'\x11' * (x_len - 2), b'\x5a' * 32, f'{h(b"k")} {h(s)}'
         k = string(bytes.fromhex(sha(kind, k_pq + x)[:2 * kind]))
         hashed = b''.join(map(string, (b'a', b'b', b'\x14', b'\x14', b'k', c, s))) + k
-        at = f' | ex 2.{method}.init.0.1,1,1,1,0,{c_len},0 k={digest(bytes(71))}'
+        at = f' | ex 2.{method}.init.0.1,1,1,1,0,{c_len},0 k={digest(bytes(71))} h={digest(bytes(64))}'
         begin = server(method, c, x, s)[:3]
         given = f'secret G{x_len} {h(x)}'
         for refused in (f'{given} d - {own}', f'{given} d {h(k_pq[1:])} {own}', f'{given} d {h(k_pq + k_pq[:1])} {own}',
@@ -108,7 +110,7 @@ def hybrids():
             yield begin + [ends], ['0', '0', '0', f'{number} 0 {ZEROS} | ex 2.{method}.failed.{number}.0,0,0,0,0,0,0']
         yield begin + [f'{given} d {h(k_pq)} {own}'], [
             '0', '0', '0', f'0 {len(hashed)} {sha(kind, hashed)} | ex 2.{method}.secret.0.1,1,1,1,1,{c_len},{s_len} '
-            f'k={digest(k.ljust(71, bytes(1)))} room={digest(hashed.ljust(14156, bytes(1)))}']
+            f'k={digest(k.ljust(71, bytes(1)))} h={digest(bytes.fromhex(sha(kind, hashed)))} room={digest(hashed.ljust(14156, bytes(1)))}']
         # what somebody wrote into the room is hashed as it stands there
         poked = b'\0\0\0\1X' + hashed[5:]
         yield begin + ['poke 4 58', f'{given} d {h(k_pq)} {own}'], ['0', '0', '0', '0', f'0 {len(hashed)} {sha(kind, poked)} |']
@@ -242,7 +244,7 @@ def exchanges():
     for n in (31, 33):
         payload = h(bytes([30]) + string(bytes(n)))
         yield [room, 'start 2 1 61 62 14 14', f'init {payload}', f'init {payload}'], [
-            '0', '0', '14 0:- | ex 2.1.failed.14.0,0,0,0,0,0,0 k=' + digest(bytes(71)) + ' room=' + digest(bytes(14156)), '1 0:-']
+            '0', '0', f'14 0:- | ex 2.1.failed.14.0,0,0,0,0,0,0 k={digest(bytes(71))} h={digest(bytes(64))} room={digest(bytes(14156))}', '1 0:-']
     # P12: REPLY cut in its third length
     cut = h(bytes([31]) + string(b'k') + string(bytes(32)) + bytes(3))
     yield [room, 'start 1 1 61 62 14 14', f'ownc {"00" * 32} 00*1670', f'reply {cut}'], ['0', '0', '0 37', '12 0:- 0:- 0:-']
@@ -257,6 +259,17 @@ def exchanges():
         yield [room, begin, f'set l2 {n}', init, begin, init, f'set l6 {n}', 'blank'], [
             '0', whole, '0' + forged, '1 0:-' + forged, whole, '0 5:', f'0 | ex 2.1.init.0.1,1,1,1,0,32,{n}', zeros]
     yield ['blank', 'set fail 9'], ['0 | ex 0.0.failed.0.', '0 | ex 0.0.failed.9.']
+    # a fault behind the secret step and any start leave neither K nor H, and no key
+    none = f' k={digest(bytes(71))} h={digest(bytes(64))} room='
+    secret = server(1, bytes(32), b'\1' * 32)
+    k, hashed = string(b'\1' * 32), b''.join(map(string, (b'a', b'b', b'\x14', b'\x14', b'k', bytes(32), bytes(32), b'\1' * 32)))
+    exchange_hash = bytes.fromhex(sha(32, hashed)[:64])
+    done = ['0', '0', '0', '0', '0 47 36', f'0 {out(derived(32, k, exchange_hash, 65, exchange_hash, 1))}']
+    sign, key, no_key = 'sign 73 00*5774 00*71', 'derive 65 1 00', f'1 {out(bytes(1))} | ex '
+    yield secret + ['set role 1', 'verdict 1 0 00*71', key], [
+        *done[:4], '0 | ex 1.1.secret.', f'18 0 {out(bytes(71))} | ex 1.1.failed.18.0,0,0,0,0,0,0{none}{digest(bytes(14156))}', f'{no_key}1.1.failed.18.']
+    yield secret + [sign, key, begin, key], [*done, f'{whole}{none}', f'{no_key}2.1.started.0.1,1,1,1,0,0,0{none}']
+    yield secret + [sign, key, 'start 2 0 61 62 14 14', key], [*done, f'2 | ex 0.0.failed.2.0,0,0,0,0,0,0{none}', f'{no_key}0.0.failed.2.']
 
 
 HASHED = ('V_C', 'V_S', 'I_C', 'I_S', 'K_S', 'C', 'S')
@@ -268,17 +281,50 @@ def lent(data, size):
     return data.ljust(size, b'\x55')
 
 
+def keys(kind, k, h):
+    """Keys of a complete exchange, and what is refused: line, and what its answer begins with, but for exchange and room."""
+    def given(letter, length, size):
+        return f'derive {letter} {length} 55*{size}', f'0 {out(lent(derived(kind, k, h, letter, h, length), size))}'
+
+    for letter in range(65, 71):
+        for length in (1, 16, kind - 1, kind, kind + 1, 2 * kind, min(2 * kind + 1, 128), 128):
+            yield given(letter, length, length)
+    for length in range(1, 129, 7):
+        yield given(67, length, length + 9)
+        yield f'derive 67 {length} 55*{length - 1}', f'5 {out(lent(b"", length - 1))}'
+    for letter in (0, 64, 71, 97, 102, 255):
+        yield f'derive {letter} 16 55*16', f'4 {out(lent(b"", 16))}'
+    for length in (0, 129, 256, 2**32 + 16, 2**64 - 1):
+        for size in (0, 16, 300):
+            yield f'derive 65 {length} 55*{size}', f'4 {out(lent(b"", size))}'
+
+
+def not_complete(state):
+    """1, ahead of 4 and 5."""
+    for line, size in (('derive 65 16 55*16', 16), ('derive 65 16 -', 0), ('derive 71 0 55*3', 3)):
+        yield line, f'1 {out(lent(b"", size))}{state}'
+
+
 def captured():
-    """Every captured exchange in both roles: what its steps tell, H, INIT, REPLY and K, and every byte of exchange and room after each."""
+    """Every captured exchange in both roles: what its steps tell, H, INIT, REPLY, K and keys, and every byte of exchange and room after each."""
     for method, f in captures():
         k, k_out = f['K'], lent(f['K'].ljust(71, b'\0'), 75)
         exchange_hash = f['H'].ljust(64, b'\0').hex()
         hashed = sum(len(string(f[name])) for name in HASHED) + len(k)
 
-        def after(role, stage, names, k=b''):
+        def after(role, stage, names, k=b'', h=b''):
             room = b''.join(string(f[name]) for name in HASHED if name in names) + k
             lens = ','.join(str(len(f[name]) if name in names else 0) for name in HASHED)
-            return f' | ex {role}.{method}.{stage}.0.{lens} k={digest(k.ljust(71, bytes(1)))} room={digest(lent(room, 14156))}'
+            return (f' | ex {role}.{method}.{stage}.0.{lens} k={digest(k.ljust(71, bytes(1)))} h={digest(h.ljust(64, bytes(1)))} '
+                    f'room={digest(lent(room, 14156))}')
+
+        def done(role, lines, wants):
+            """The steps, no key ahead of the last one, and keys behind it."""
+            complete = after(role, 'complete', HASHED, k, f['H'])
+            early = list(not_complete(after(role, 'secret', HASHED, k, f['H'])))
+            late = [(line, want + complete) for line, want in keys(len(f['H']), k, f['H'])]
+            return (lines[:-1] + [line for line, _ in early] + lines[-1:] + [line for line, _ in late],
+                    wants[:-1] + [want for _, want in early] + wants[-1:] + [want for _, want in late])
 
         def parts(*names):
             """Fields one behind another in a payload, behind its message number."""
@@ -291,25 +337,127 @@ def captured():
             return ['room 55*14156', f'start {role} {method} ' + ' '.join(h(f[name]) for name in STARTED)]
 
         secret = f'secret G{len(f["X"])} {h(f["X"])} {"d" if f["K_PQ"] else "a"} {h(f["K_PQ"])}'
-        yield start(1) + [f'ownc {h(f["C"])} 55*1670', f'reply {h(f["REPLY"])}', f'{secret} - -', 'verdict 1 1 55*75'], [
+        yield done(1, start(1) + [f'ownc {h(f["C"])} 55*1670', f'reply {h(f["REPLY"])}', f'{secret} - -', 'verdict 1 1 55*75'], [
             '0', '0' + after(1, 'started', STARTED),
             f'0 {len(f["INIT"])} {out(lent(f["INIT"], 1670))}' + after(1, 'own_c', WITH_C),
             '0' + ''.join(parts('K_S', 'S', 'signature')) + after(1, 'reply', HASHED),
-            f'0 {hashed} {exchange_hash}' + after(1, 'secret', HASHED, k),
-            f'0 {len(k)} {out(k_out)}' + after(1, 'complete', HASHED, k)]
-        yield start(2) + [f'init {h(f["INIT"])}', f'{secret} {h(f["K_S"])} {h(f["S"])}', f'sign {h(f["signature"])} 55*5774 55*75'], [
+            f'0 {hashed} {exchange_hash}' + after(1, 'secret', HASHED, k, f['H']),
+            f'0 {len(k)} {out(k_out)}' + after(1, 'complete', HASHED, k, f['H'])])
+        yield done(2, start(2) + [f'init {h(f["INIT"])}', f'{secret} {h(f["K_S"])} {h(f["S"])}', f'sign {h(f["signature"])} 55*5774 55*75'], [
             '0', '0' + after(2, 'started', STARTED),
             '0' + ''.join(parts('C')) + after(2, 'init', WITH_C),
-            f'0 {hashed} {exchange_hash}' + after(2, 'secret', HASHED, k),
-            f'0 {len(f["REPLY"])} {len(k)} {out(lent(f["REPLY"], 5774))} {out(k_out)}' + after(2, 'complete', HASHED, k)]
+            f'0 {hashed} {exchange_hash}' + after(2, 'secret', HASHED, k, f['H']),
+            f'0 {len(f["REPLY"])} {len(k)} {out(lent(f["REPLY"], 5774))} {out(k_out)}' + after(2, 'complete', HASHED, k, f['H'])])
+
+
+# ---- keys of exchanges that no steps made
+
+class Record:
+    """One that is complete and fits, field by field; the kept one is made to be it by lines, whatever it was."""
+    def __init__(self, method, k, h, role=1):
+        row = METHODS[method]
+        self.fields = dict(zip(('role', 'method', 'stage', *(f'l{i}' for i in range(7))), (role, method, 'complete', 9, 9, 20, 20, 8, row.c, row.s)))
+        self.k, self.h = k.ljust(71, b'\0'), h.ljust(64, b'\0')
+
+    def made(self):
+        for field, value in self.fields.items():
+            yield f'set {field} {value}', '0 | ex '
+        yield f'put k {h(self.k)}', '0 | ex '
+        yield f'put h {h(self.h)}', f'0{self.state()}'
+
+    def state(self):
+        role, method, stage, *lens = self.fields.values()
+        return f' | ex {role}.{method}.{stage}.0.{",".join(map(str, lens))} k={digest(self.k)} h={digest(self.h)} room={digest(b"")}'
+
+    def given(self, letter, key):
+        return f'derive {letter} {len(key)} 55*{len(key) + 2}', f'0 {out(lent(key, len(key) + 2))}{self.state()}'
+
+    def but(self, line, **fields):
+        """With other fields: what a line changes."""
+        other = Record(1, self.k, self.h)
+        other.fields = {**self.fields, **fields}
+        return [(line, f'0{other.state()}')], other
+
+
+def published_keys():
+    for method, key in of_records():
+        record = Record(method, key.k, key.h, role=1 + key.letter % 2)
+        yield from record.made()
+        yield record.given(key.letter, key.key)
+
+
+def forged_keys():
+    """One thing of a record that does not fit, and back."""
+    for method, row in METHODS.items():
+        k, digest_bytes = string(b'\x5a' * row.most), bytes(range(row.kind))
+        record = Record(method, k, digest_bytes)
+        key = derived(row.kind, k, digest_bytes, 66, digest_bytes, 100)
+        yield from record.made()
+        yield record.given(66, key)
+        wrong = [('role', 0), ('role', 3), ('role', 255), ('method', 0), ('method', 10), ('method', 255), ('stage', 'secret'), ('stage', 'failed'),
+                 *((f'l{i}', n) for i, most in enumerate((253, 253, 4096, 4096, 2048)) for n in (0, most + 1, 65536 + 1, 2**64 - 1)),
+                 *((f'l{i}', n + by) for i, n in ((5, row.c), (6, row.s)) for by in (-1, 1))]
+        for field, value in wrong:
+            lines, other = record.but(f'set {field} {value}', **{field: value})
+            yield from lines
+            yield from not_complete(other.state())
+            yield f'set {field} {record.fields[field]}', f'0{record.state()}'
+        for length in (row.least - 1, row.most + 1, 72, 256 + row.most, 2**24 + row.most, 2**32 - 1):
+            if length < 0:
+                continue
+            other = Record(method, length.to_bytes(4, 'big') + k[4:], digest_bytes)
+            yield f'put k {length:08x}', f'0{other.state()}'
+            yield from not_complete(other.state())
+        yield f'put k {h(k[:4])}', f'0{record.state()}'
+        # K's bytes behind its length and H's behind the digest are in no key; each of the others is, as it stands
+        if row.most < 67:
+            other = Record(method, k + b'\xee' * (71 - len(k)), digest_bytes)
+            yield f'put k {h(other.k)}', f'0{other.state()}'
+            yield other.given(66, key)
+            yield f'put k {h(record.k)}', f'0{record.state()}'
+        if row.kind < 64:
+            other = Record(method, k, digest_bytes.ljust(64, b'\xee'))
+            yield f'put h {h(other.h)}', f'0{other.state()}'
+            yield other.given(66, key)
+            yield f'put h {h(record.h)}', f'0{record.state()}'
+        shorter = string(b'\x5a' * row.least)
+        for k, digest_bytes in ((shorter, digest_bytes), (string(bytes(row.most)), digest_bytes), (k, bytes(row.kind)), (k, b'\xff' * row.kind)):
+            other = Record(method, k, digest_bytes)
+            yield f'put k {h(other.k)}', '0 | ex '
+            yield f'put h {h(other.h)}', f'0{other.state()}'
+            yield other.given(70, derived(row.kind, k, digest_bytes, 70, digest_bytes, 128))
+
+
+def records():
+    """Cases that stand one behind another, as lists."""
+    for cases in (published_keys(), forged_keys()):
+        yield [list(words) for words in zip(*cases)]
+
+
+# ---- the landings' examples, as the bench answered when each was the last; what the state has gained since
+
+LATER = {'102': ['h'], '105': []}
+
+
+def examples():
+    for name, later in LATER.items():
+        script, answers = ((ROOT / f'tests/examples/{name}.{end}').read_text().splitlines() for end in ('script', 'answers'))
+        lines = [line for line in script if not line.startswith('#')]
+
+        def holds(answer, want, later=later):
+            return ' '.join(word for word in answer.split(' ') if word.split('=')[0] not in later) == want
+
+        yield lines, answers, holds
 
 
 BAD = [
     'what', 'rstr', 'rstr 0', 'rstr 0g', 'rstr AB', 'rstr  00', 'rstr 00 ', ' rstr 00', 'rstr 00 00', 'rstr -*1', 'rstr *4',
     'rstr 00*x', 'rstr 00*-1', 'wstr 00', 'open 14 x', 'open 14 18446744073709551616', 'next 1', 'wkex 00 - - 0 0 -',
-    'set what 1', 'set role 256', 'set l7 1', 'set k71 1', 'set stage ended', 'set fail', 'poke 0 00', 'start 256 1 - - - -',
+    'set what 1', 'set role 256', 'set l7 1', 'set k71 1', 'set k0 256', 'set h64 1', 'set h0 256', 'set h 1', 'set stage ended', 'set fail',
+    'put', 'put k', 'put k 0', 'put k 00*72', 'put h 00*65', 'put room 00', 'put h0 00', 'poke 0 00', 'start 256 1 - - - -',
     'secret X - a - - -', 'secret G - a - - -', 'secret F - x - - -', 'sha', 'sha 256', 'feed', 'feed 0', 'finish 1',
-    'shaset kind 256', 'shaset total 18446744073709551616', 'shaset held 0', 'verdict 2 1 -', 'verdict 1 1', 'rstr 00\r', 'rstr 00\0',
+    'shaset kind 256', 'shaset total 18446744073709551616', 'shaset held 0', 'verdict 2 1 -', 'verdict 1 1', 'derive 65 16', 'derive 256 16 -',
+    'derive A 16 -', 'derive 65 18446744073709551616 -', 'derive 65 16 - -', 'rstr 00\r', 'rstr 00\0',
 ]
 
 
@@ -322,9 +470,9 @@ def main():
             failed.append(f'{what}: {have!r}, not {want!r}')
 
     count = 0
-    steps = [(lines, wants, str.startswith) for lines, wants in [*secrets(), *hybrids(), *exchanges(), *captured()]]
+    steps = [(lines, wants, str.startswith) for lines, wants in [*secrets(), *hybrids(), *exchanges(), *captured(), *records()]]
     whole = [(lines, wants, str.__eq__) for lines, wants in lists()]
-    for lines, wants, holds in steps + whole:
+    for lines, wants, holds in steps + whole + list(examples()):
         status, answers, errors = run(bench, '\n'.join(lines) + '\n')
         held(lines[0], (status, len(answers), errors), (0, len(wants), []))
         for line, answer, want in zip(lines, answers, wants):

@@ -116,7 +116,7 @@ static outcome right_outcome(void)
 /* ---- the calls, with the right inputs, an exchange of e and a room of r bytes */
 
 static uint64_t told[8]; /* what they tell, and numbers behind it that are not theirs */
-static uint8_t out[CASTULFRISA_REPLY + 1], k_out[CASTULFRISA_K + 1], h[CASTULFRISA_H_SIZE + 1];
+static uint8_t out[CASTULFRISA_REPLY + 1], k_out[CASTULFRISA_K + 1], h[CASTULFRISA_H_SIZE + 1], key[CASTULFRISA_KEY_MOST + 1];
 
 typedef uint64_t (*call)(side *a, uint64_t e, uint64_t r);
 
@@ -184,11 +184,18 @@ static uint64_t reply_signature(side *a, uint64_t e, uint64_t r)
     return castulfrisa_reply_signature(a->exchange, e, a->room, r, reply, reply_len, (castulfrisa_part *)told);
 }
 
-/* Each, the step that must be due for it, and how many numbers it tells. */
+/* It is lent no room. */
+static uint64_t derive(side *a, uint64_t e, uint64_t r)
+{
+    (void)r;
+    return castulfrisa_derive(a->exchange, e, CASTULFRISA_IV_C2S, 16, key, 16);
+}
+
+/* Each, the step that must be due for it, and how many numbers it tells. For a key none is: every step must have been accepted. */
 static const struct { call make, due; size_t numbers; } calls[] = {
     {own_c, own_c, 1}, {read_init, read_init, 2}, {read_reply, read_reply, 6}, {take_secret, take_secret, 1}, {sign, sign, 2},
     {verdict, verdict, 1}, {init_c, read_init, 2}, {reply_host_key, read_reply, 2}, {reply_s, read_reply, 2},
-    {reply_signature, read_reply, 2}};
+    {reply_signature, read_reply, 2}, {derive, derive, 0}};
 
 /* ---- what holds behind a call */
 
@@ -201,6 +208,7 @@ static void before(const side *a)
     memset(out, FILL, sizeof out);
     memset(k_out, FILL, sizeof k_out);
     memset(h, FILL, sizeof h);
+    memset(key, FILL, sizeof key);
 }
 
 static int numbers_told(size_t numbers) { return all(told + numbers, FILL, sizeof told - 8 * numbers); }
@@ -209,7 +217,7 @@ static int numbers_told(size_t numbers) { return all(told + numbers, FILL, sizeo
 static int told_nothing(size_t numbers, int hands_h)
 {
     return all(told, 0, 8 * numbers) && numbers_told(numbers) && all(out, FILL, sizeof out) && all(k_out, FILL, sizeof k_out)
-        && all(h, hands_h ? 0 : FILL, CASTULFRISA_H_SIZE) && h[CASTULFRISA_H_SIZE] == FILL;
+        && all(key, FILL, sizeof key) && all(h, hands_h ? 0 : FILL, CASTULFRISA_H_SIZE) && h[CASTULFRISA_H_SIZE] == FILL;
 }
 
 static int same_room(const side *a) { return memcmp(a->room, was.room, sizeof was.room) == 0; }
@@ -229,15 +237,18 @@ static int no_state(const side *a, uint64_t len)
     return castulfrisa_state(a->exchange, len, &t.told) == CASTULFRISA_NOT_DUE && ZERO(t);
 }
 
-/* Whether some four bytes of K stand one behind another in an exchange. */
-static int holds_k(const side *a)
+/* Whether some four bytes of K or of H stand one behind another in an exchange. */
+static int holds(const side *a, const uint8_t *secret, size_t from, size_t len)
 {
     size_t i, j;
     for (i = 0; i + 4 <= EX; i++)
-        for (j = 5; j + 4 <= k_len; j++)
-            if (memcmp(a->exchange + i, k + j, 4) == 0) return 1;
+        for (j = from; j + 4 <= len; j++)
+            if (memcmp(a->exchange + i, secret + j, 4) == 0) return 1;
     return 0;
 }
+
+static int holds_k(const side *a) { return holds(a, k, 5, k_len); }
+static int holds_h(const side *a) { return holds(a, h_due, 0, z.digest_len); }
 
 static int k_is_out(void) { return memcmp(k_out, k, CASTULFRISA_K) == 0 && k_out[CASTULFRISA_K] == FILL; }
 
@@ -260,10 +271,11 @@ static void only(side *a, call due)
     size_t i;
     answered_1(a, EX, ROOM, due, "1, not due");
     answered_1(a, EX, 0, due, "1, not due, ahead of 3");
-    answered_1(a, EX - 1, ROOM, NULL, "1, an exchange of 89 bytes");
-    answered_1(a, EX + 1, ROOM, NULL, "1, an exchange of 91 bytes");
+    answered_1(a, EX - 1, ROOM, NULL, "1, an exchange a byte short");
+    answered_1(a, EX + 1, ROOM, NULL, "1, an exchange a byte long");
+    answered_1(a, 90, ROOM, NULL, "1, an exchange as long as an older one");
     answered_1(a, 0, 0, NULL, "1, an exchange of no bytes, ahead of 3");
-    is(no_state(a, EX - 1) && no_state(a, EX + 1) && no_state(a, 0), "1, the state in 89, 91 and no bytes");
+    is(no_state(a, EX - 1) && no_state(a, EX + 1) && no_state(a, 90) && no_state(a, 0), "1, the state in another number of bytes");
     for (i = 0; i < COUNT(calls); i++)
         if (calls[i].due == due) {
             before(a);
@@ -293,18 +305,19 @@ static void faulted(side *a, uint64_t role, uint64_t number, const char *what)
     size_t i, left = 0;
     is(all(a->room, 0, ROOM) && a->room[ROOM] == FILL && state_is(a, CASTULFRISA_FAILED, number, role, method), what);
     for (i = 0; i < EX; i++) left += a->exchange[i] != 0;
-    is(left <= 5 && !holds_k(a) && a->exchange[EX] == FILL, "no length and no K in a failed exchange");
+    is(left <= 5 && !holds_k(a) && !holds_h(a) && a->exchange[EX] == FILL, "no length, no K and no H in a failed exchange");
     answered_1(a, EX, ROOM, NULL, "1, failed for good");
 }
 
 /* ---- the steps, one by one */
 
-/* A started exchange, in buffers that held something else. */
+/* A started exchange, in buffers that held something else: no K and no H are in it. */
 static void started(side *a, uint64_t role)
 {
     opening o = right_opening(role);
     memset(a, FILL, sizeof *a);
     is(start(a, &o) == 0 && state_is(a, CASTULFRISA_STARTED, 0, role, method), "start");
+    is(all(a->exchange + EX - CASTULFRISA_H_SIZE - CASTULFRISA_K, 0, CASTULFRISA_H_SIZE + CASTULFRISA_K), "and no K and no H");
     is(memcmp(a->room, hashed, started_len) == 0, "the four strings in the room");
     is(all(a->room + started_len, FILL, sizeof a->room - started_len) && a->exchange[EX] == FILL, "and the rest as it was");
 }
@@ -398,8 +411,89 @@ static void secret_taken(side *a, uint64_t role)
     is(all(h + z.digest_len, 0, CASTULFRISA_H_SIZE - z.digest_len) && !all(h, 0, z.digest_len), "zeros after its digest");
     is(memcmp(a->room + hashed_len, was.room + hashed_len, sizeof was.room - hashed_len) == 0, "the room behind it");
     is(state_is(a, CASTULFRISA_SECRET_DONE, 0, role, method) && a->exchange[EX] == FILL, "the state behind the secret");
-    is(holds_k(a), "K in the exchange");
+    is(holds_k(a) && holds_h(a), "K and H in the exchange");
 }
+
+/* ---- keys */
+
+/* RFC 4253, section 7.2, by hashes of K, H and what came before: the longest key that is derived. */
+static void key_by_hand(uint64_t letter, uint8_t due[CASTULFRISA_KEY_MOST + CASTULFRISA_H_SIZE])
+{
+    uint8_t ahead[CASTULFRISA_K + CASTULFRISA_H_SIZE], behind[1 + CASTULFRISA_H_SIZE];
+    uint64_t made;
+    memcpy(ahead, k, k_len);
+    memcpy(ahead + k_len, h_due, z.digest_len);
+    behind[0] = (uint8_t)letter;
+    memcpy(behind + 1, h_due, z.digest_len);
+    hash_of(ahead, k_len + z.digest_len, behind, 1 + z.digest_len, due);
+    for (made = z.digest_len; made < CASTULFRISA_KEY_MOST; made += z.digest_len)
+        hash_of(ahead, k_len + z.digest_len, due, made, due + made);
+}
+
+#define DERIVE(letter, length, len) castulfrisa_derive(a->exchange, EX, letter, length, key, len)
+
+static void keys_refused(side *a)
+{
+    static const uint64_t no_letter[] = {0, 1, 64, 71, 97, 102, 255, 256 + 65, 256 + 70, WIDE + 65, UINT64_MAX - 190, UINT64_MAX};
+    static const uint64_t no_length[] = {0, 129, 255, 256, 256 + 16, WIDE, WIDE + 16, UINT64_MAX};
+    uint64_t letter, length;
+    size_t i;
+    for (i = 0; i < COUNT(no_letter); i++) {
+        REFUSED(a, 0, CASTULFRISA_BAD_INPUT, DERIVE(no_letter[i], 16, 16), "4, no letter");
+        REFUSED(a, 0, CASTULFRISA_BAD_INPUT, DERIVE(no_letter[i], 16, 0), "4, no letter, ahead of 5");
+    }
+    for (i = 0; i < COUNT(no_length); i++) {
+        REFUSED(a, 0, CASTULFRISA_BAD_INPUT, DERIVE(CASTULFRISA_IV_S2C, no_length[i], CASTULFRISA_KEY_MOST), "4, no length");
+        REFUSED(a, 0, CASTULFRISA_BAD_INPUT, castulfrisa_derive(a->exchange, EX, CASTULFRISA_IV_S2C, no_length[i], out, sizeof out),
+                "4, no length, in a long output");
+        REFUSED(a, 0, CASTULFRISA_BAD_INPUT, DERIVE(no_letter[i], no_length[i], 0), "4, no letter and no length, ahead of 5");
+    }
+    for (letter = CASTULFRISA_IV_C2S; letter <= CASTULFRISA_MAC_KEY_S2C; letter++)
+        for (length = 1; length <= CASTULFRISA_KEY_MOST; length += 31)
+            REFUSED(a, 0, CASTULFRISA_SHORT_OUTPUT, DERIVE(letter, length, length - 1), "5, a key");
+    REFUSED(a, 0, CASTULFRISA_SHORT_OUTPUT, castulfrisa_derive(a->exchange, EX, CASTULFRISA_IV_C2S, 16, NULL, 0), "5, no output");
+}
+
+/* A complete exchange with one thing of it that does not fit: 1, ahead of 4 and 5. */
+static void keys_of_what_does_not_fit(const side *a)
+{
+    /* the mark, the stage, the number that ended it, the role, the method; the seven lengths, and K's, by their high bytes */
+    static const uint8_t spoiled[][2] = {{0, 0}, {0, 1}, {0, 3}, {1, 4}, {1, 6}, {1, 7}, {2, 1}, {2, 18}, {3, 0}, {3, 3}, {3, 255}, {4, 0}, {4, 10},
+                                         {4, 255}, {5, 1}, {7, 1}, {9, 17}, {11, 17}, {13, 9}, {15, 16}, {17, 16}, {19, 1}, {20, 1}, {21, 1}};
+    static side copy;
+    size_t i;
+    copy = *a;
+    for (i = 0; i < COUNT(spoiled); i++) {
+        copy.exchange[spoiled[i][0]] = spoiled[i][1];
+        REFUSED(&copy, 0, CASTULFRISA_NOT_DUE, derive(&copy, EX, 0), "1, a key of a complete exchange that does not fit");
+        REFUSED(&copy, 0, CASTULFRISA_NOT_DUE, castulfrisa_derive(copy.exchange, EX, 0, 0, key, 0), "1, a key, ahead of 4 and 5");
+        copy.exchange[spoiled[i][0]] = a->exchange[spoiled[i][0]];
+    }
+    castulfrisa_wipe(copy.exchange, EX);
+    REFUSED(&copy, 0, CASTULFRISA_NOT_DUE, derive(&copy, EX, 0), "1, a key of a wiped exchange");
+}
+
+/* Every key of a complete exchange: the exchange is only read, and the room is not lent. */
+static void keys(side *a)
+{
+    uint8_t due[CASTULFRISA_KEY_MOST + CASTULFRISA_H_SIZE];
+    uint64_t letter, length;
+    answered_1(a, EX, ROOM, derive, "1, complete");
+    keys_refused(a);
+    keys_of_what_does_not_fit(a);
+    for (letter = CASTULFRISA_IV_C2S; letter <= CASTULFRISA_MAC_KEY_S2C; letter++) {
+        key_by_hand(letter, due);
+        for (length = 1; length <= CASTULFRISA_KEY_MOST; length++) {
+            before(a);
+            is(DERIVE(letter, length, length) == 0 && memcmp(key, due, length) == 0 && same(a), "a key");
+            is(all(key + length, FILL, sizeof key - length), "and nothing behind it");
+        }
+        before(a);
+        is(DERIVE(letter, 20, sizeof key) == 0 && memcmp(key, due, 20) == 0 && all(key + 20, FILL, sizeof key - 20), "a key in a longer output");
+    }
+}
+
+#undef DERIVE
 
 static void c_sent(side *a)
 {
@@ -449,7 +543,8 @@ static void verdict_given(side *a)
     before(a);
     is(verdict(a, EX, ROOM) == 0 && told[0] == k_len && numbers_told(1) && k_is_out(), "the verdict, and K");
     is(same_room(a) && state_is(a, CASTULFRISA_COMPLETE, 0, CASTULFRISA_CLIENT, method), "a client complete");
-    answered_1(a, EX, ROOM, NULL, "1, complete");
+    is(holds_k(a) && holds_h(a), "K and H in a client that is complete");
+    keys(a);
 }
 
 static void init_read(side *a)
@@ -479,7 +574,8 @@ static void reply_signed(side *a)
     is(g.reply == reply_len && g.k == k_len && k_is_out(), "its counts, and K");
     is(memcmp(out, reply, reply_len) == 0 && all(out + reply_len, FILL, sizeof out - reply_len), "REPLY, and nothing behind it");
     is(same_room(a) && state_is(a, CASTULFRISA_COMPLETE, 0, CASTULFRISA_SERVER, method), "a server complete");
-    answered_1(a, EX, ROOM, NULL, "1, complete");
+    is(holds_k(a) && holds_h(a), "K and H in a server that is complete");
+    keys(a);
 }
 
 /* ---- what is refused at the start, what ends an exchange, and what is none */
@@ -527,9 +623,9 @@ static void starts_refused(void)
         started(&client, CASTULFRISA_CLIENT);
         o = right_opening(CASTULFRISA_CLIENT);
         o.exchange_len = e;
-        REFUSED(&client, 0, CASTULFRISA_NOT_DUE, start(&client, &o), "1, a start in 89 or 91 bytes");
+        REFUSED(&client, 0, CASTULFRISA_NOT_DUE, start(&client, &o), "1, a start in a byte less or more");
         o.role = o.room_len = o.v_c_len = 0;
-        REFUSED(&client, 0, CASTULFRISA_NOT_DUE, start(&client, &o), "1, a start in 89 or 91 bytes, ahead of 2, 3 and 4");
+        REFUSED(&client, 0, CASTULFRISA_NOT_DUE, start(&client, &o), "1, a start in a byte less or more, ahead of 2, 3 and 4");
     }
     o = right_opening(CASTULFRISA_CLIENT);
     o.v_c_len = o.v_s_len = CASTULFRISA_V_MOST;
@@ -594,7 +690,7 @@ static void peers_faults(void)
 static void no_exchanges(void)
 {
     /* the mark, the stage, the number that ended it, the role, the method */
-    static const uint8_t spoiled[][2] = {{0, 0}, {0, 2}, {0, 255}, {1, 7}, {1, 255}, {2, 1}, {2, 18}, {3, 0}, {3, 3}, {3, 255},
+    static const uint8_t spoiled[][2] = {{0, 0}, {0, 1}, {0, 255}, {1, 7}, {1, 255}, {2, 1}, {2, 18}, {3, 0}, {3, 3}, {3, 255},
                                          {4, 0}, {4, 10}, {4, 255}};
     static side whole;
     side *a = &client;

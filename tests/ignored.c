@@ -38,6 +38,7 @@ void ignore(uint8_t *p, uint64_t n, uint64_t *count, castulfrisa_part *part, cas
     castulfrisa_reply_s(p, n, p, n, p, n, part);
     castulfrisa_reply_signature(p, n, p, n, p, n, part);
     castulfrisa_state(p, n, &told);
+    castulfrisa_derive(p, n, n, n, p, n);
     castulfrisa_hash_start(p, n, n);
     castulfrisa_hash_feed(p, n, p, n);
     castulfrisa_hash_finish(p, n, p);

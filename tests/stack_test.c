@@ -1,5 +1,5 @@
-/* What the calls leave of the shared secrets on the stack below their caller, how deep each goes, and that castulfrisa_wipe_stack leaves
-   nothing of them. The stack is painted, a call is made, and what stands below is looked at without another call in between. Not for the
+/* What the calls leave of the shared secrets and of a key on the stack below their caller, how deep each goes, and that
+   castulfrisa_wipe_stack leaves nothing of them. The stack is painted, a call is made, and what stands below is looked at without another call in between. Not for the
    sanitizers: they lay out the stack in their own way. */
 #include "castulfrisa.h"
 #include <stdio.h>
@@ -41,6 +41,8 @@ static uint64_t method;
 static castulfrisa_sizes z;
 static uint8_t x[CASTULFRISA_X_MOST], k_pq[CASTULFRISA_K_PQ_SIZE];
 static uint8_t digest[CASTULFRISA_H_SIZE]; /* of K_PQ and X: a hybrid's K */
+static uint8_t h[CASTULFRISA_H_SIZE], key[CASTULFRISA_KEY_MOST];
+static uint64_t h_len, key_len; /* of H and of a key, once they are known: copies of zeros would be seen everywhere */
 
 static int piece_of(const uint8_t *at, const uint8_t *secret, size_t len)
 {
@@ -52,7 +54,8 @@ static int piece_of(const uint8_t *at, const uint8_t *secret, size_t len)
 
 static int piece_of_any(const uint8_t *at)
 {
-    return piece_of(at, x, z.x_len) || piece_of(at, k_pq, sizeof k_pq) || piece_of(at, digest, z.digest_len);
+    return piece_of(at, x, z.x_len) || piece_of(at, k_pq, sizeof k_pq) || piece_of(at, digest, z.digest_len) || piece_of(at, h, h_len)
+        || piece_of(at, key, key_len);
 }
 
 /* A hash reads words with the high byte first, and this machine keeps them the other way round: pieces of a secret are also those that are one
@@ -74,7 +77,7 @@ static int painted(const uint8_t *at)
     return 1;
 }
 
-/* Copies of X, K_PQ or the digest of both, whole or in part, and the bytes in them. */
+/* Copies of X, K_PQ, the digest of both, H or the key, whole or in part, and the bytes in them. */
 static size_t copies(const uint8_t *stack, size_t *bytes)
 {
     size_t i, count = 0, end = 0; /* of the copy that was seen last */
@@ -93,11 +96,11 @@ static size_t copies(const uint8_t *stack, size_t *bytes)
 
 /* ---- what was seen of each call, over all methods */
 
-enum { SECRET_CLIENT, SECRET_SERVER, SIGN, VERDICT, VERDICT_NO, NOT_DUE, STATE, FEED, FINISH, SHALLOW, DEEP, CALLS };
+enum { SECRET_CLIENT, SECRET_SERVER, SIGN, VERDICT, VERDICT_NO, DERIVE, NOT_DUE, STATE, FEED, FINISH, SHALLOW, DEEP, CALLS };
 static struct { const char *name; size_t copies, bytes, depth, wiped; } seen[CALLS] = {
     {"take_secret, client", 0, 0, 0, 0}, {"take_secret, server", 0, 0, 0, 0}, {"sign", 0, 0, 0, 0}, {"verdict", 0, 0, 0, 0},
-    {"verdict, refused", 0, 0, 0, 0}, {"a step not due", 0, 0, 0, 0}, {"state", 0, 0, 0, 0}, {"hash_feed", 0, 0, 0, 0},
-    {"hash_finish", 0, 0, 0, 0}, {"planted", 0, 0, 0, 0}, {"planted too deep", 0, 0, 0, 0}};
+    {"verdict, refused", 0, 0, 0, 0}, {"derive", 0, 0, 0, 0}, {"a step not due", 0, 0, 0, 0}, {"state", 0, 0, 0, 0},
+    {"hash_feed", 0, 0, 0, 0}, {"hash_finish", 0, 0, 0, 0}, {"planted", 0, 0, 0, 0}, {"planted too deep", 0, 0, 0, 0}};
 
 static size_t larger(size_t a, size_t b) { return a > b ? a : b; }
 
@@ -129,7 +132,7 @@ static void note(int call, int held)
 
 static uint8_t exchange[EX], room[ROOM], other_exchange[EX], other_room[ROOM];
 static uint8_t payload[CASTULFRISA_REPLY], value[CASTULFRISA_VALUE_MOST], out[CASTULFRISA_REPLY], k[CASTULFRISA_K];
-static uint8_t h[CASTULFRISA_H_SIZE], hash[CASTULFRISA_HASH_SIZE];
+static uint8_t hash[CASTULFRISA_HASH_SIZE];
 static uint64_t payload_len, count;
 static castulfrisa_signed counts;
 static castulfrisa_progress told;
@@ -139,6 +142,7 @@ static NOINLINE void secret(int call)
     uint64_t kem = z.hybrid ? CASTULFRISA_KEM_DONE : CASTULFRISA_KEM_ABSENT, k_pq_len = z.hybrid ? sizeof k_pq : 0;
     OBSERVE(call, castulfrisa_take_secret(exchange, EX, room, ROOM, 1, z.x_len, x, z.x_len, kem, k_pq, k_pq_len, value, 9, value, z.s_len,
                                           &count, h) == 0);
+    h_len = z.digest_len;
 }
 
 /* K_PQ and X hashed as a host may hash them: what waits goes into a block with what comes. */
@@ -180,6 +184,14 @@ static NOINLINE void verdict_no(void)
     OBSERVE(VERDICT_NO, castulfrisa_verdict(other_exchange, EX, other_room, ROOM, 1, 0, k, sizeof k, &count) == CASTULFRISA_VERDICT);
 }
 
+/* The longest key, of every digest that there is. It is known first, as the digest is. */
+static NOINLINE void derive(void)
+{
+    if (castulfrisa_derive(exchange, EX, CASTULFRISA_CIPHER_KEY_C2S, sizeof key, key, sizeof key) != 0) failed = 1;
+    key_len = sizeof key;
+    OBSERVE(DERIVE, castulfrisa_derive(exchange, EX, CASTULFRISA_CIPHER_KEY_C2S, sizeof key, key, sizeof key) == 0);
+}
+
 static NOINLINE void not_due(void)
 {
     OBSERVE(NOT_DUE, castulfrisa_own_c(exchange, EX, room, ROOM, value, z.c_len, out, sizeof out, &count) == CASTULFRISA_NOT_DUE);
@@ -216,6 +228,7 @@ static void started(uint64_t role)
     castulfrisa_part c;
     castulfrisa_reply parts;
     int good = castulfrisa_start(exchange, EX, role, method, v, 1, v, 1, i, 1, i, 1, room, ROOM) == 0;
+    h_len = key_len = 0;
     if (role == CASTULFRISA_CLIENT) {
         payload[0] = 31;
         payload_len = 1 + put(payload + 1, 9);
@@ -251,9 +264,11 @@ int main(void)
         not_due();
         verdict_no();
         verdict();
+        derive();
         started(CASTULFRISA_SERVER);
         secret(SECRET_SERVER);
         sign();
+        derive();
         planted();
         planted_too_deep();
     }

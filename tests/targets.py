@@ -1,8 +1,8 @@
 #!/usr/bin/env python3
 """The archives for other machines, each run under qemu and measured (`make targets`; machines.py says how a program for each is made).
 
-Every archive: the header's test, the stack's, the bench on a script with every answer held to plain Rust's, document 01's examples and the
-captured exchanges through the bench, a client and a server at their largest; and it calls nothing but C's memcpy, memmove and memset.
+Every archive: the header's test, the stack's, the bench on a script with every answer held to plain Rust's, document 01's examples, published
+keys and the captured exchanges through the bench, a client and a server at their largest; and it calls nothing but C's memcpy, memmove and memset.
 host/example.c, a client and a server on OpenSSL's libcrypto, for the machines that Debian has a libcrypto for: not riscv64 in Debian 12.
 
 usage: targets.py SCRIPT ANSWERS
@@ -66,7 +66,7 @@ def tried(machine, variant, script, answers, folders):
         first = next(i for i, (a, b) in enumerate(itertools.zip_longest(ours.split(b'\n'), answers.split(b'\n')), 1) if a != b)
         raise Wrong(f'the bench has another answer than plain Rust, number {first}')
     said('the bench test', [sys.executable, ROOT / 'tests/bench_test.py', *bench])
-    ran = f'header, stack, {len(answers.splitlines()):,} answers as plain Rust gives them, document 01 and the captures'
+    ran = f'header, stack, {len(answers.splitlines()):,} answers as plain Rust gives them, document 01, published keys and the captures'
     architecture, triple = LIBCRYPTO.get(machine.name, (None, None))
     if root := folders.get(architecture):
         words = [f'-I{root}/usr/include', f'-I{root}/usr/include/{triple}', f'-L{root}/usr/lib/{triple}', '-lcrypto']

@@ -1,4 +1,4 @@
-/* One exchange with every field at its largest, as client (ROLE 1), as server (2) or as both (3), or no more than a hash (4), on
+/* One exchange with every field at its largest and a key, as client (ROLE 1), as server (2) or as both (3), or no more than a hash (4), on
    a stack that was painted before: prints how deep each entry went. Its link map tells what of the library a host of that role carries. */
 #define _XOPEN_SOURCE 700
 #include "castulfrisa.h"
@@ -18,7 +18,7 @@ static uint8_t room[CASTULFRISA_ROOM], kexinit[CASTULFRISA_KEXINIT_MOST], versio
 static uint8_t init[CASTULFRISA_INIT], reply[CASTULFRISA_REPLY], k[CASTULFRISA_K];
 static uint8_t value[CASTULFRISA_VALUE_MOST], x[48], k_pq[CASTULFRISA_K_PQ_SIZE], h[CASTULFRISA_H_SIZE];
 static uint8_t ks[CASTULFRISA_BLOB_MOST], signature[CASTULFRISA_BLOB_MOST];
-static uint8_t exchange[CASTULFRISA_EXCHANGE];
+static uint8_t exchange[CASTULFRISA_EXCHANGE], key[CASTULFRISA_KEY_MOST];
 static uint64_t init_len, reply_len;
 
 #define EXCHANGE exchange, sizeof exchange, room, sizeof room
@@ -59,6 +59,11 @@ static void take_secret(void)
     uint64_t count;
     number = castulfrisa_take_secret(EXCHANGE, 1, sizeof x, x, sizeof x, CASTULFRISA_KEM_DONE, k_pq, sizeof k_pq, ks, sizeof ks, value,
                                      sizeof value, &count, h);
+}
+
+static void derive(void)
+{
+    number = castulfrisa_derive(exchange, sizeof exchange, CASTULFRISA_CIPHER_KEY_C2S, sizeof key, key, sizeof key);
 }
 
 static void wipe(void)
@@ -190,12 +195,14 @@ int main(void)
     tell("read_reply", read_reply, base);
     tell("take_secret", take_secret, base);
     tell("verdict", verdict, base);
+    tell("derive", derive, base);
 #endif
 #if ROLE & 2
     tell("start", start_server, base);
     tell("read_init", read_init, base);
     tell("take_secret", take_secret, base);
     tell("sign", sign, base);
+    tell("derive", derive, base);
 #endif
 #if ROLE & 3
     tell("wipe", wipe, base);

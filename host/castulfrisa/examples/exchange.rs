@@ -1,7 +1,10 @@
-//! A client and a server complete an exchange with each other in every method. The primitives are stand-ins with fixed outputs:
-//! both sides get the same X and K_PQ, and the signature is 64 fixed bytes. A real host puts its own in their place.
+//! A client and a server complete an exchange with each other in every method, and derive their keys. The primitives are stand-ins with
+//! fixed outputs: both sides get the same X and K_PQ, and the signature is 64 fixed bytes. A real host puts its own in their place.
 use castulfrisa::{choose, same_version, wipe_stack, write_kexinit, Classical, Client, Greeting, Kem, Method, Own, Refusal, Server, K};
-use castulfrisa::{EXCHANGE, INIT, KEXINIT_MOST, K_PQ_SIZE, REPLY, ROOM};
+use castulfrisa::{Key, Letter, EXCHANGE, INIT, KEXINIT_MOST, K_PQ_SIZE, REPLY, ROOM};
+
+/// What aes256-ctr and hmac-sha2-256 want of each letter, A to F.
+const LENGTHS: [usize; 6] = [16, 16, 32, 32, 32, 32];
 
 fn exchange(name: &[u8]) -> Result<usize, Refusal> {
     let (mut ic, mut is) = ([0; KEXINIT_MOST], [0; KEXINIT_MOST]);
@@ -47,7 +50,14 @@ fn exchange(name: &[u8]) -> Result<usize, Refusal> {
     assert_eq!(client_k.as_bytes(), server_k.as_bytes());
     assert!(client.hash_input().ends_with(client_k.as_bytes()));
     let hashed = client.hash_input().len();
-    // the keys would be derived here: then nothing of K stays, neither in what was lent nor on the stack
+    for (letter, length) in Letter::ALL.into_iter().zip(LENGTHS) {
+        let (mut of_client, mut of_server) = (Key::new(), Key::new());
+        client.derive(letter, length, &mut of_client)?;
+        server.derive(letter, length, &mut of_server)?;
+        // a host hands each to its cipher or MAC here: it wipes itself behind this line
+        assert_eq!((of_client.as_bytes(), of_client.as_bytes().len()), (of_server.as_bytes(), length));
+    }
+    // then nothing of K stays, neither in what was lent nor on the stack
     drop((client, server, client_k, server_k));
     wipe_stack();
     assert!(client_exchange.iter().chain(&client_room).chain(&server_exchange).chain(&server_room).all(|byte| *byte == 0));
@@ -62,7 +72,7 @@ fn main() {
     for method in Method::ALL {
         let name = method.name();
         match exchange(&name) {
-            Ok(hashed) => println!("method {}, {}: complete, {} bytes to hash", method.number(), name, hashed),
+            Ok(hashed) => println!("method {}, {}: complete, {} bytes to hash, six keys", method.number(), name, hashed),
             Err(refusal) => {
                 eprintln!("method {}, {}: {}", method.number(), name, refusal);
                 std::process::exit(1);

@@ -15,6 +15,9 @@
 //! | `take_secret` | `Server<SecretDone>`, which lends H and the hash input |
 //! | `sign` | `Server<Complete>`, and REPLY; K is written |
 //!
+//! A complete exchange, of either role, gives the keys (`derive`): nothing else need be kept for them, not K either. It is no step, and may be asked
+//! for each key, and again, until the exchange is dropped.
+//!
 //! A step that is refused with nothing changed brings the exchange back ([`Stopped::Refused`]); the peer's fault ends it, and
 //! there is none any more ([`Stopped::Failed`]). Here a room that is too short is refused, and one that is long enough is lent
 //! next:
@@ -55,6 +58,16 @@
 //! # let (mut exchange, mut room) = ([0; EXCHANGE], [0; ROOM]);
 //! let client = Client::start(Method::Curve25519Sha256, greeting, &mut exchange, &mut room).unwrap();
 //! client.read_reply(&[31]);
+//! ```
+//!
+//! A key before the exchange is complete:
+//!
+//! ```compile_fail,E0599
+//! # use castulfrisa::{Client, Greeting, Key, Letter, Method, EXCHANGE, INIT, ROOM};
+//! # let greeting = Greeting { vc: b"c", vs: b"s", ic: &[20], is: &[20] };
+//! # let (mut exchange, mut room) = ([0; EXCHANGE], [0; ROOM]);
+//! let client = Client::start(Method::Curve25519Sha256, greeting, &mut exchange, &mut room).unwrap();
+//! client.derive(Letter::IvC2s, 16, &mut Key::new());
 //! ```
 //!
 //! A second use of an exchange that a step consumed:
@@ -104,7 +117,7 @@
 //! ```
 use crate::raw::{self, Progress};
 use crate::refusal::{judged, Refusal};
-use crate::{bytes, Method, EXCHANGE, H_SIZE};
+use crate::{bytes, Key, Letter, Method, EXCHANGE, H_SIZE};
 use core::fmt;
 use core::marker::PhantomData;
 
@@ -253,8 +266,8 @@ pub struct Reply<'a> {
     pub signature: &'a [u8],
 }
 
-/// The shared secret as it is hashed, and as keys are derived from it. It is lent to the last step, which writes it where it
-/// stands, so that no copy is left behind; and it wipes itself when it is dropped.
+/// The shared secret as it is hashed, and as keys are derived from it: a complete exchange does that by itself, without it. It is lent to the last
+/// step, which writes it where it stands, so that no copy is left behind; and it wipes itself when it is dropped.
 ///
 /// ```compile_fail,E0599
 /// let k = castulfrisa::K::new();
@@ -522,7 +535,13 @@ impl<R> Exchange<'_, R, SecretDone> {
 }
 
 impl<R> Exchange<'_, R, Complete> {
-    /// H, the exchange hash: from it, K and the session identifier, which is H of a connection's first exchange, keys are derived.
+    /// A key of so many bytes, 1 to `KEY_MOST`, by RFC 4253, section 7.2; the session identifier is H. It is written into `key`. Fewer bytes
+    /// are a beginning of what more would be.
+    pub fn derive(&self, letter: Letter, length: usize, key: &mut Key) -> Result<(), Refusal> {
+        judged(key.derived(self.lent.exchange, letter, length))
+    }
+
+    /// H, the exchange hash; of a connection's first exchange it is the session identifier.
     pub fn h(&self) -> &[u8] {
         self.stage.hashed.h()
     }

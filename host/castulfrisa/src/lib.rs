@@ -1,5 +1,6 @@
 //! Safe calls into the key-exchange core of SSH: strings and mpints, KEXINIT, the choice of a method, and one exchange as client or
-//! server. The core computes no curve, KEM or signature: the host does, and hands in what came out. It hashes with its own SHA-2.
+//! server, with the keys that come of it. The core computes no curve, KEM or signature: the host does, and hands in what came out. It
+//! hashes with its own SHA-2.
 //!
 //! A refusal is an `Err` with the one cause that the core found first. An exchange is a type for each role and stage: a step
 //! consumes it and returns the next, so that a step of the other role, one out of order and a second use do not compile. Nothing
@@ -7,7 +8,7 @@
 //!
 //! ```
 //! use castulfrisa::{choose, write_kexinit, Classical, Client, Greeting, Kem, Refusal, Server, K, EXCHANGE, INIT, REPLY, ROOM};
-//! use castulfrisa::{Method, Own};
+//! use castulfrisa::{Key, Letter, Method, Own};
 //!
 //! let mut mine = [0; 4096];
 //! let lists: [&[u8]; 10] = [b"curve25519-sha256", b"ssh-ed25519", b"", b"", b"", b"", b"", b"", b"", b""];
@@ -34,8 +35,14 @@
 //! assert_eq!((parts.host_key, parts.s, parts.signature), (&b"host key"[..], &[2; 32][..], &b"signature over H"[..]));
 //! let client = client.take_secret(Classical::Given(&[3; 32]), Kem::Absent)?;
 //! assert_eq!(client.h(), server.h()); // what is signed, and verified
-//! client.verdict(true, true, &mut client_k)?;
+//! let client = client.verdict(true, true, &mut client_k)?;
 //! assert_eq!(client_k.as_bytes(), server_k.as_bytes());
+//!
+//! // each of the six keys, as long as its cipher or MAC wants it
+//! let (mut sends, mut receives) = (Key::new(), Key::new());
+//! client.derive(Letter::CipherKeyC2s, 32, &mut sends)?;
+//! server.derive(Letter::CipherKeyC2s, 32, &mut receives)?;
+//! assert_eq!(sends.as_bytes(), receives.as_bytes());
 //!
 //! // what an exchange was lent is zeros again once it is dropped
 //! drop(server);
@@ -48,6 +55,7 @@
 pub mod exchange;
 mod hash;
 mod kexinit;
+mod keys;
 mod method;
 pub mod raw;
 mod refusal;
@@ -56,15 +64,16 @@ mod wire;
 pub use exchange::{Classical, Client, Greeting, Kem, Own, Reply, Role, Server, Stopped, K};
 pub use hash::{Hash, Kind};
 pub use kexinit::{choose, open_list, write_kexinit, Choice, Kexinit, List, Names, NotWritten};
+pub use keys::{Key, Letter};
 pub use method::{Method, Name, Sizes};
 pub use refusal::Refusal;
 pub use wire::{read_mpint, read_string, write_mpint, write_string, Mpint};
 
 /// The version of the header that this crate was written to.
-pub const VERSION: u64 = 3;
+pub const VERSION: u64 = 4;
 
 /// The bytes of an exchange.
-pub const EXCHANGE: usize = 90;
+pub const EXCHANGE: usize = 154;
 /// The room that an exchange needs, in bytes.
 pub const ROOM: usize = 14_156;
 /// The least output for INIT.
@@ -87,6 +96,8 @@ pub const X_MOST: usize = 66;
 pub const K_PQ_SIZE: usize = 32;
 /// H and a digest, zeros after the digest's own bytes.
 pub const H_SIZE: usize = 64;
+/// The longest key.
+pub const KEY_MOST: usize = 128;
 /// The bytes of a hash.
 pub const HASH_SIZE: usize = 209;
 /// What one hash is fed in all.
@@ -106,7 +117,7 @@ pub fn same_version() -> bool {
     raw::version() == VERSION
 }
 
-/// Overwrites the stack below the caller's frame, as far as any call of the core reaches: K, K_PQ and X stay there in copies that a
+/// Overwrites the stack below the caller's frame, as far as any call of the core reaches: K, K_PQ, X and keys stay there in copies that a
 /// compiler made. To be called from the function that made the calls, once the keys are derived.
 #[inline(never)]
 pub fn wipe_stack() {

@@ -177,6 +177,9 @@ mod c {
             payload: *const u8, payload_len: u64, signature: *mut Part,
         ) -> u64;
         pub fn castulfrisa_state(exchange: *const u8, exchange_len: u64, told: *mut Progress) -> u64;
+        pub fn castulfrisa_derive(
+            exchange: *const u8, exchange_len: u64, letter: u64, length: u64, key: *mut u8, key_len: u64,
+        ) -> u64;
         pub fn castulfrisa_hash_start(hash: *mut u8, hash_len: u64, kind: u64) -> u64;
         pub fn castulfrisa_hash_feed(hash: *mut u8, hash_len: u64, part: *const u8, part_len: u64) -> u64;
         pub fn castulfrisa_hash_finish(hash: *const u8, hash_len: u64, digest: *mut u8) -> u64;
@@ -391,6 +394,13 @@ pub fn reply_signature(exchange: &[u8], room: &[u8], payload: &[u8], signature: 
 /// How far an exchange has come.
 pub fn state(exchange: &[u8], told: &mut Progress) -> u64 {
     unsafe { c::castulfrisa_state(exchange.as_ptr(), exchange.len() as u64, told) }
+}
+
+/// A key of a complete exchange, `length` bytes of it written at the beginning of `key`.
+pub fn derive(exchange: &[u8], letter: u64, length: u64, key: &mut [u8]) -> u64 {
+    unsafe {
+        c::castulfrisa_derive(exchange.as_ptr(), exchange.len() as u64, letter, length, key.as_mut_ptr(), key.len() as u64)
+    }
 }
 
 // ---- hashes

@@ -4,13 +4,14 @@ use core::fmt;
 /// Why a call was refused; `number` is the core's.
 #[derive(Clone, Copy, Debug, PartialEq, Eq, Hash)]
 pub enum Refusal {
-    /// 1: the step is not due, also when the exchange is complete or failed; or the bytes lent for it are none.
+    /// 1: the call is not due: a step out of turn, also when the exchange is complete or failed, or a key of one that is not complete; or
+    /// the bytes lent for it are none.
     NotDue,
     /// 2: method not 1 to 9, or role neither client nor server.
     NoMethod,
     /// 3: the room is too short.
     ShortRoom,
-    /// 4: what the caller handed in has a wrong length or form, or a hash would be fed too much.
+    /// 4: what the caller handed in has a wrong length or form, a hash would be fed too much, or no key has that letter or length.
     BadInput,
     /// 5: an output is too short.
     ShortOutput,
@@ -46,10 +47,10 @@ pub enum Refusal {
 
 /// Each number with its refusal and the header's sentence for it.
 const ALL: [(u64, Refusal, &str); 18] = [
-    (1, Refusal::NotDue, "the step is not due, or the bytes lent for the exchange are none"),
+    (1, Refusal::NotDue, "the call is not due, or the bytes lent for the exchange are none"),
     (2, Refusal::NoMethod, "there is no such method or role"),
     (3, Refusal::ShortRoom, "the room is too short"),
-    (4, Refusal::BadInput, "a field, outcome, K_PQ or hash handed in has a wrong length or form, or a hash would be fed too much"),
+    (4, Refusal::BadInput, "a field, outcome, K_PQ or hash handed in has a wrong length or form, a hash would be fed too much, or no key has that letter or length"),
     (5, Refusal::ShortOutput, "an output is too short"),
     (10, Refusal::PayloadSize, "the payload is empty or too long"),
     (11, Refusal::Message, "the payload is another message"),

@@ -67,6 +67,7 @@ fn sizes_are_the_headers() {
         ("X_MOST", X_MOST as u64),
         ("K_PQ_SIZE", K_PQ_SIZE as u64),
         ("H_SIZE", H_SIZE as u64),
+        ("KEY_MOST", KEY_MOST as u64),
         ("HASH_SIZE", HASH_SIZE as u64),
         ("HASH_MOST", HASH_MOST as u64),
         ("COOKIE", COOKIE as u64),
@@ -92,6 +93,8 @@ fn numbers_are_the_headers() {
     assert_eq!(numbers("kem"), ours.map(|(name, kem)| (format!("KEM_{}", name), kem.number())).into());
     let ours = Kind::ALL.map(|kind| (format!("{:?}", kind).to_uppercase(), kind.number()));
     assert_eq!(numbers("kind"), ours.into());
+    let ours = Letter::ALL.map(|letter| (upper(letter), letter.number()));
+    assert_eq!(numbers("letter"), ours.into());
 }
 
 #[test]
@@ -162,7 +165,7 @@ fn entries_are_the_headers() {
         let back = back.trim().strip_prefix("-> ").unwrap_or("()").to_string();
         ours.insert(ahead.to_string(), (list, back));
     }
-    assert_eq!(theirs.len(), 28);
+    assert_eq!(theirs.len(), 29);
     assert_eq!(ours, theirs);
 }
 

@@ -1,7 +1,7 @@
 //! What the calls leave on the stack, and what `wipe_stack` leaves of it: a thread runs on memory that the test keeps, and that
 //! it looks through when the thread has ended.
 #![cfg(all(target_os = "linux", target_pointer_width = "64"))]
-use castulfrisa::{wipe_stack, Classical, Greeting, Kem, Method, Own, Server, EXCHANGE, K, REPLY, ROOM};
+use castulfrisa::{wipe_stack, Classical, Greeting, Kem, Key, Letter, Method, Own, Server, EXCHANGE, K, KEY_MOST, REPLY, ROOM};
 use std::ffi::c_void;
 use std::hint::black_box;
 
@@ -32,10 +32,19 @@ struct Run {
     room: Vec<u8>,
     reply: Vec<u8>,
     k: Box<K>,
+    h: Vec<u8>,
+    key: Box<Key>,
     what: fn(&mut Run),
 }
 
-/// A server's exchange, all of it.
+impl Run {
+    /// What must not be found: X, which K is of, H, and a key; the latter two where there was an exchange.
+    fn secrets(&self) -> [&[u8]; 3] {
+        [&self.x, &self.h, self.key.as_bytes()]
+    }
+}
+
+/// A server's exchange, all of it, and a key; what lies below this frame is wiped from here, since it reaches furthest so.
 #[inline(never)]
 fn exchange(run: &mut Run) {
     let greeting = Greeting { vc: b"c", vs: b"s", ic: &[20], is: &[20] };
@@ -43,7 +52,11 @@ fn exchange(run: &mut Run) {
     let (server, _) = server.read_init(&run.init).unwrap();
     let own = Own { host_key: b"k", s: &[2; 32] };
     let server = server.take_secret(Classical::Given(&run.x), Kem::Absent, own).unwrap();
-    server.sign(b"g", &mut run.reply, &mut run.k).unwrap();
+    let (server, _) = server.sign(b"g", &mut run.reply, &mut run.k).unwrap();
+    run.h.extend_from_slice(server.h());
+    server.derive(Letter::CipherKeyC2s, KEY_MOST, &mut run.key).unwrap();
+    drop(server);
+    wipe_stack();
 }
 
 /// Copies of X in a frame that is deeper than what a thread's end writes over.
@@ -62,7 +75,7 @@ extern "C" fn begin(with: *mut c_void) -> *mut c_void {
     std::ptr::null_mut()
 }
 
-/// How often eight bytes of X stand on the stack after `what` ran on it.
+/// How often eight bytes of a secret stand on the stack after `what` ran on it.
 fn left_by(what: fn(&mut Run)) -> usize {
     let mut run = Run {
         x: x(),
@@ -71,6 +84,8 @@ fn left_by(what: fn(&mut Run)) -> usize {
         room: vec![0; ROOM],
         reply: vec![0; REPLY],
         k: Box::new(K::new()),
+        h: Vec::with_capacity(64),
+        key: Box::new(Key::new()),
         what,
     };
     let mut stack = vec![0u64; SIZE / 8];
@@ -82,7 +97,9 @@ fn left_by(what: fn(&mut Run)) -> usize {
         assert_eq!(pthread_join(thread, std::ptr::null_mut()), 0);
     }
     let bytes: Vec<u8> = stack.iter().flat_map(|word| word.to_ne_bytes()).collect();
-    bytes.windows(8).filter(|eight| run.x.contains(&eight[0]) && run.x.windows(8).any(|x| x == *eight)).count()
+    let piece = |eight: &&[u8]| run.secrets().iter().any(|secret| secret.windows(8).any(|piece| piece == *eight));
+    // most of it was never touched
+    bytes.windows(8).filter(|eight| eight[0] != 0).filter(piece).count()
 }
 
 #[test]
@@ -94,6 +111,7 @@ fn the_stack_is_wiped_below_the_calls() {
         wipe_stack();
     }
     assert_eq!(left_by(copies_and_wipes), 0);
+    // the exchange's own frame, where H was moved from stage to stage
     fn exchanges_and_wipes(run: &mut Run) {
         exchange(run);
         wipe_stack();

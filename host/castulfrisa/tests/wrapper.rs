@@ -1,5 +1,5 @@
 //! What the wrapper adds to the boundary: slices for parts, refusals for numbers, an iterator for a list, an exchange that comes
-//! back or ends, and a K and a hash that are wiped.
+//! back or ends, and a K, keys and a hash that are wiped.
 use castulfrisa::exchange::{Complete, SecretDone, Started};
 use castulfrisa::*;
 use std::fmt::Write;
@@ -307,6 +307,61 @@ fn a_hybrids_k_is_the_hash_of_k_pq_and_x() {
     }
 }
 
+/// RFC 4253, section 7.2, by hashes of whole messages.
+fn key(kind: Kind, k: &[u8], h: &[u8], letter: u8, length: usize) -> Vec<u8> {
+    let mut all = sha(kind, &[k, h, &[letter], h].concat());
+    while all.len() < length {
+        all = [&all[..], &sha(kind, &[k, h, &all].concat())].concat();
+    }
+    all.truncate(length);
+    all
+}
+
+#[test]
+fn a_complete_exchange_gives_the_six_keys() {
+    let mut b = Buffers::new();
+    for method in Method::ALL {
+        let sizes = method.sizes();
+        let kind = Kind::of(sizes.digest_len as u64).unwrap();
+        let (c, s, x) = (vec![4; sizes.c_len], vec![4; sizes.s_len], vec![0x9b; sizes.x_len]);
+        let kem = if sizes.hybrid { Kem::Done(&[0x71; K_PQ_SIZE]) } else { Kem::Absent };
+        let init = [&[30][..], &(c.len() as u32).to_be_bytes(), &c].concat();
+        let server = Server::start(method, GREETING, &mut b.exchange, &mut b.room).unwrap().read_init(&init).unwrap().0;
+        let server = server.take_secret(Classical::Given(&x), kem, Own { host_key: b"k", s: &s }).unwrap();
+        let mut k = K::new();
+        let server = server.sign(b"g", &mut [0; REPLY], &mut k).unwrap().0;
+        let mut keys: [Key; 6] = Default::default();
+        for (letter, one) in Letter::ALL.into_iter().zip(&mut keys) {
+            assert_eq!(one.as_bytes(), &[]);
+            for length in [KEY_MOST, 1, 16, 20, 32, 64, 100] {
+                server.derive(letter, length, one).unwrap();
+                let want = key(kind, k.as_bytes(), server.h(), letter.number() as u8, length);
+                assert_eq!((one.as_bytes(), Letter::of(letter.number())), (&want[..], Some(letter)));
+            }
+            // refused, a key stays
+            for length in [0, KEY_MOST + 1, usize::MAX] {
+                assert_eq!(server.derive(letter, length, one), Err(Refusal::BadInput));
+                assert_eq!(one.as_bytes(), key(kind, k.as_bytes(), server.h(), letter.number() as u8, 100));
+            }
+        }
+        for (i, one) in keys.iter().enumerate() {
+            assert!(keys[..i].iter().all(|other| other.as_bytes() != one.as_bytes()));
+        }
+        drop(server);
+        assert!(b.wiped());
+    }
+    assert_eq!((Letter::of(64), Letter::of(71), Letter::of(256 + 65), Letter::of(97)), (None, None, None, None));
+
+    // both sides have the same, and a client's comes of its verdict
+    let (mut of_client, mut of_server) = (Key::new(), Key::new());
+    let client = client_at_secret(&mut b).verdict(true, true, &mut K::new()).unwrap();
+    client.derive(Letter::MacKeyS2c, 64, &mut of_client).unwrap();
+    drop(client);
+    let server = server_at_secret(&mut b).sign(b"g", &mut [0; REPLY], &mut K::new()).unwrap().0;
+    server.derive(Letter::MacKeyS2c, 64, &mut of_server).unwrap();
+    assert_eq!(of_client.as_bytes(), of_server.as_bytes());
+}
+
 #[test]
 fn a_hash_is_fed_and_finished() {
     assert_eq!(sha(Kind::Sha256, b"abc")[..4], [0xba, 0x78, 0x16, 0xbf]);
@@ -353,6 +408,25 @@ fn a_k_is_wiped_when_it_is_dropped() {
 }
 
 #[test]
+fn a_key_is_wiped_when_it_is_dropped_and_where_a_shorter_one_takes_its_place() {
+    let mut b = Buffers::new();
+    let server = server_at_secret(&mut b).sign(b"g", &mut [0; REPLY], &mut K::new()).unwrap().0;
+    let mut key = ManuallyDrop::new(Key::new());
+    let place: *const Key = &*key;
+    let bytes = || unsafe { std::slice::from_raw_parts(place.cast::<u8>(), size_of::<Key>()) }.to_vec();
+    let shows = |of: &[u8]| bytes().windows(4).any(|four| of.windows(4).any(|all| all == four));
+    server.derive(Letter::CipherKeyC2s, KEY_MOST, &mut key).unwrap();
+    let all = key.as_bytes().to_vec();
+    assert!(shows(&all[..16]) && shows(&all[16..]));
+    server.derive(Letter::CipherKeyC2s, 16, &mut key).unwrap();
+    assert!(shows(&all[..16]) && !shows(&all[16..]));
+    unsafe { ManuallyDrop::drop(&mut key) };
+    assert!(!shows(&all));
+    // what is left is its length
+    assert_eq!(bytes().iter().filter(|byte| **byte != 0).collect::<Vec<_>>(), [&16]);
+}
+
+#[test]
 fn nothing_secret_is_shown() {
     let mut b = Buffers::new();
     let mut k = K::new();
@@ -360,7 +434,9 @@ fn nothing_secret_is_shown() {
     let client = client_at_secret(&mut b);
     write!(shown, "{:?} {:?} {:?} {:?} ", Classical::Given(&X), Kem::Done(&X), Kem::Failed, client).unwrap();
     let client = client.verdict(true, true, &mut k).unwrap();
-    write!(shown, "{:?} {:?} ", client, k).unwrap();
+    let mut key = Key::new();
+    client.derive(Letter::IvS2c, 16, &mut key).unwrap();
+    write!(shown, "{:?} {:?} {:?} ", client, k, key).unwrap();
     drop(client);
     let refused = server_at_secret(&mut b).sign(&[], &mut [0; REPLY], &mut k).map(|_| ()).unwrap_err();
     write!(shown, "{:?} {} ", refused, refused).unwrap();
@@ -370,9 +446,9 @@ fn nothing_secret_is_shown() {
     assert_eq!(
         shown,
         "Given(32 bytes) Done(32 bytes) Failed Exchange { role: 1, method: 1, stage: 4, .. } \
-         Exchange { role: 1, method: 1, stage: 5, .. } K { .. } \
+         Exchange { role: 1, method: 1, stage: 5, .. } K { .. } Key { .. } \
          Refused { refusal: BadInput, .. } a field, outcome, K_PQ or hash handed in has a wrong length or form, \
-         or a hash would be fed too much (4) \
+         a hash would be fed too much, or no key has that letter or length (4) \
          Hash { kind: Sha384, .. }"
     );
 }

@@ -1,9 +1,9 @@
 //! Random calls of an exchange: mostly the one that is due, often with one thing wrong, now and then any other, or a number wider
 //! than any that there is; between them rooms that somebody wrote to, rooms of another length, and exchanges with a byte changed,
-//! of another length, or put back from an older copy.
+//! of another length, made up as a whole, or put back from an older copy.
 use crate::random::Random;
 use crate::stored::{exchange_of, EXCHANGE};
-use plain::{Exchange, Stage};
+use plain::{Exchange, Stage, H, KEY_MOST, K_RECORD};
 
 /// Bytes that repeat: what an output or a room holds before it is lent.
 #[derive(Clone, Debug)]
@@ -30,6 +30,7 @@ pub enum Field {
     Method,
     Length(usize),
     K(usize),
+    H(usize),
 }
 
 #[derive(Clone, Debug)]
@@ -42,6 +43,8 @@ pub enum Call {
     Forge(Field, u16),
     /// Other bytes lent for the exchange, of any length.
     Lend(Vec<u8>),
+    /// An exchange that no steps made.
+    Record(Exchange),
     /// The exchange becomes what it was after an earlier call of the list, and where `room` the room does too.
     Old { copy: usize, room: bool },
     Start { role: u64, method: u64, vc: Vec<u8>, vs: Vec<u8>, ic: Vec<u8>, is: Vec<u8> },
@@ -51,6 +54,7 @@ pub enum Call {
     Secret { given: u64, x_count: u64, x: Vec<u8>, kem: u64, k_pq: Vec<u8>, ks: Vec<u8>, s: Vec<u8> },
     Sign { signature: Vec<u8>, out: Filled, k_out: Filled },
     Verdict { signature: u64, host_key: u64, k_out: Filled },
+    Derive { letter: u64, length: u64, key: Filled },
 }
 
 /// A number that a byte or 32 bits of it would mean: `n` with something above them.
@@ -318,7 +322,79 @@ fn secret(r: &mut Random, role: u8, method: u8) -> Call {
     Call::Secret { given, x_count, x, kem, k_pq, ks, s }
 }
 
-/// The step with this number: own C, INIT, REPLY, secret, signature, verdict.
+/// Where keys' lengths end a hash's digest, and what ciphers and MACs want.
+const KEY_LENGTHS: [u64; 16] = [1, 12, 16, 20, 31, 32, 33, 47, 48, 49, 63, 64, 65, 96, 97, 128];
+
+/// A key: mostly one that there is, in an output that is long enough.
+fn derive(r: &mut Random) -> Call {
+    let (mut letter, mut length) = (r.range(65, 70) as u64, r.of(&KEY_LENGTHS));
+    match r.below(16) {
+        0 => letter = r.byte().into(),
+        1 => letter = r.of(&[0, 64, 71, 97, 102, 255]),
+        2 => letter = widened(r, letter),
+        3 => length = r.of(&[0, 129, 130, 255, 256]),
+        4 => length = widened(r, length),
+        5..=7 => length = r.range(1, KEY_MOST) as u64,
+        _ => {}
+    }
+    // as long as a length that is none, too
+    let held = length.min(2 * KEY_MOST as u64) as usize;
+    let len = match r.below(16) {
+        0 => held.saturating_sub(1),
+        1 => r.below(held + 1),
+        2..=6 => r.range(held, held + 100),
+        _ => held,
+    };
+    Call::Derive { letter, length, key: filled(r, len) }
+}
+
+/// The shortest and the longest body of K that a method has.
+pub fn k_lens(m: &plain::Method) -> (usize, usize) {
+    match m.hybrid {
+        true => (m.digest_len, m.digest_len),
+        false => (usize::from(m.zero_check), m.x_len + 1),
+    }
+}
+
+/// A complete exchange that no steps made, of this method, with any K and H.
+pub fn complete(r: &mut Random, role: u8, method: u8) -> Exchange {
+    let m = plain::method(method).expect("a method");
+    let (least, most) = k_lens(m);
+    let (v_c, v_s) = (sized(r, 1, 253), sized(r, 1, 253));
+    let (i_c, i_s, k_s) = (sized(r, 1, 4096), sized(r, 1, 4096), sized(r, 1, 2048));
+    let (mut k, mut h) = ([0; K_RECORD], [0; H]);
+    k.copy_from_slice(&r.bytes(K_RECORD));
+    h.copy_from_slice(&r.bytes(H));
+    let len = if r.coin() { most } else { r.range(least, most) };
+    k[..4].copy_from_slice(&(len as u32).to_be_bytes());
+    Exchange { role, method, stage: Stage::Complete, lens: [v_c, v_s, i_c, i_s, k_s, m.c_len, m.s_len], k, h }
+}
+
+/// One, often with one thing that does not fit.
+fn record(r: &mut Random) -> Call {
+    let (role, method) = (r.range(1, 2) as u8, r.range(1, 9) as u8);
+    let mut e = complete(r, role, method);
+    match r.below(14) {
+        0 => e.role = r.of(&[0, 3, 255]),
+        1 => e.method = r.below(12) as u8,
+        2 => e.method = r.byte(),
+        3 => e.stage = r.of(&[Stage::Started, Stage::OwnC, Stage::Init, Stage::Reply, Stage::Secret, Stage::Failed(0), Stage::Failed(18)]),
+        4 | 5 => {
+            let i = r.below(7);
+            e.lens[i] = r.of(&[0, 1, 32, 56, 65, 97, 133, 253, 254, 1120, 1216, 2048, 2049, 4096, 4097, 0xffff]);
+        }
+        6 => {
+            let i = r.range(5, 6);
+            e.lens[i] = (e.lens[i] + 2 * r.below(2)).wrapping_sub(1);
+        }
+        7 => e.k[3] = r.below(80) as u8,
+        8 => e.k[r.below(3)] = r.byte(),
+        _ => {}
+    }
+    Call::Record(e)
+}
+
+/// The step with this number: own C, INIT, REPLY, secret, signature, verdict; or a key.
 fn step(r: &mut Random, which: usize, role: u8, method: u8) -> Call {
     match which {
         0 => Call::OwnC { c: c_value(r, method), out: output(r, plain::INIT_OUT) },
@@ -326,6 +402,7 @@ fn step(r: &mut Random, which: usize, role: u8, method: u8) -> Call {
         2 => Call::Reply(reply(r, method)),
         3 => secret(r, role, method),
         4 => Call::Sign { signature: blob(r), out: output(r, plain::REPLY_OUT), k_out: output(r, plain::K_RECORD) },
+        6 => derive(r),
         _ => {
             let no = r.once_in(6);
             let which = r.below(3);
@@ -348,7 +425,7 @@ pub fn start(r: &mut Random) -> Call {
 }
 
 fn forge(r: &mut Random) -> Call {
-    let field = match r.below(9) {
+    let field = match r.below(10) {
         0 => Field::Role,
         1 => Field::Method,
         2 => Field::Stage,
@@ -356,15 +433,17 @@ fn forge(r: &mut Random) -> Call {
         4 => Field::K(r.below(4)),
         5 => Field::K(r.below(71)),
         6 => Field::Mark,
+        7 => Field::H(r.below(64)),
         _ => Field::Length(r.below(7)),
     };
     let to = match field {
-        Field::Mark => r.of(&[0, 2, 129, 255]),
+        Field::Mark => r.of(&[0, 1, 3, 130, 255]),
         Field::Role => r.of(&[0, 1, 2, 3, 255]),
         Field::Method => r.below(12) as u16,
         Field::Stage => r.of(&[0, 1, 2, 3, 4, 5, 6, 7, 8, 255]),
         Field::Fail => r.of(&[0, 0, 1, 16, 255]),
         Field::K(_) => r.of(&[0, 1, 4, 32, 33, 36, 37, 255]),
+        Field::H(_) => r.byte().into(),
         Field::Length(_) => r.of(&[
             0, 1, 2, 32, 56, 65, 97, 133, 253, 254, 1120, 1216, 2048, 2049, 4096, 4097, 14_156, 0x7fff, 0xfffc, 0xffff,
         ]),
@@ -381,7 +460,7 @@ fn other_bytes(r: &mut Random, now: &[u8]) -> Call {
             bytes.pop();
         }
         2 => bytes.push(r.byte()),
-        _ => bytes.resize(r.of(&[0, 1, 19, 45, 180, 4096]), 0),
+        _ => bytes.resize(r.of(&[0, 1, 19, 90, 180, 4096]), 0),
     }
     Call::Lend(bytes)
 }
@@ -410,8 +489,9 @@ pub fn next(r: &mut Random, exchange: &[u8], room_len: usize, kept: usize) -> Ca
         }
         3 => return Call::Room(room(r)),
         4 => return other_bytes(r, exchange),
-        5..=9 => {
-            let which = r.below(6);
+        5 => return record(r),
+        6..=11 => {
+            let which = r.below(7);
             return step(r, which, e.role, e.method);
         }
         _ => {}
@@ -423,7 +503,8 @@ pub fn next(r: &mut Random, exchange: &[u8], room_len: usize, kept: usize) -> Ca
         (Stage::Init, _) | (Stage::Reply, _) => 3,
         (Stage::Secret, 2) => 4,
         (Stage::Secret, _) => 5,
-        _ => r.below(6),
+        (Stage::Complete, _) if !r.once_in(4) => 6,
+        _ => r.below(7),
     };
     step(r, due, e.role, e.method)
 }

@@ -147,7 +147,7 @@ mod tests {
     #[test]
     fn one_byte_too_far_ends_the_run() {
         let mut fence = Fence::new();
-        for len in [0, 1, 90, SPACE] {
+        for len in [0, 1, 154, SPACE] {
             let s = fence.lend(&vec![5; len], false);
             assert_eq!(s, vec![5; len]);
             let at = s.as_mut_ptr();

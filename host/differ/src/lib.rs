@@ -3,6 +3,7 @@ pub mod calls;
 pub mod codecs;
 pub mod fence;
 pub mod hashes;
+pub mod keys;
 pub mod lists;
 pub mod model;
 pub mod random;

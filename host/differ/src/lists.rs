@@ -4,7 +4,7 @@ use crate::calls::{self, Call};
 use crate::fence::{Fence, Numbers};
 use crate::model::{Given, Side};
 use crate::random::Random;
-use crate::stored::{exchange_of, forge, EXCHANGE};
+use crate::stored::{bytes_of, exchange_of, forge, EXCHANGE, MARK};
 use crate::tally::Tally;
 use castulfrisa::raw;
 use plain::Stage;
@@ -83,7 +83,10 @@ impl Lent {
             Call::Lend(bytes) => {
                 self.exchange.lend(bytes, exchange);
             }
-            Call::OwnC { out, .. } => {
+            Call::Record(e) => {
+                self.exchange.lend(&bytes_of(e), exchange);
+            }
+            Call::OwnC { out, .. } | Call::Derive { key: out, .. } => {
                 self.out.lend(&out.bytes(), others);
             }
             Call::Sign { out, k_out, .. } => {
@@ -175,7 +178,8 @@ impl Lent {
                 given.told = six(count.words());
                 number
             }
-            Call::Room(_) | Call::Poke(..) | Call::Forge(..) | Call::Lend(_) | Call::Old { .. } => 0,
+            Call::Derive { letter, length, .. } => raw::derive(exchange, *letter, *length, out),
+            Call::Room(_) | Call::Poke(..) | Call::Forge(..) | Call::Lend(_) | Call::Record(_) | Call::Old { .. } => 0,
         };
         given.state = self.state(word, tally);
         given
@@ -204,6 +208,7 @@ pub fn entry(call: &Call) -> Option<&'static str> {
         Call::Secret { .. } => "take_secret",
         Call::Sign { .. } => "sign",
         Call::Verdict { .. } => "verdict",
+        Call::Derive { .. } => "derive",
         _ => return None,
     })
 }
@@ -232,9 +237,15 @@ pub enum Sight {
     WideHostKey,
     KemAlone,
     KemWithout,
+    Key,
+    KeyOfRecord,
+    KeyEarly,
+    KeyUnfit,
+    WideLetter,
+    LongKey,
 }
 
-const SIGHTS: [(Sight, &str); 21] = [
+const SIGHTS: [(Sight, &str); 27] = [
     (Sight::Call, "calls"),
     (Sight::Complete, "exchanges complete"),
     (Sight::Fault, "peer faults"),
@@ -256,14 +267,24 @@ const SIGHTS: [(Sight, &str); 21] = [
     (Sight::WideHostKey, "verdicts on a host key"),
     (Sight::KemAlone, "KEMs done with K_PQ where the classical primitive failed, 16"),
     (Sight::KemWithout, "of them without K_PQ, 4"),
+    (Sight::Key, "keys"),
+    (Sight::KeyOfRecord, "of them of exchanges that no steps made"),
+    (Sight::KeyEarly, "asked for before the exchange was complete, 1"),
+    (Sight::KeyUnfit, "of a complete one that does not fit, 1"),
+    (Sight::WideLetter, "by letters above 255"),
+    (Sight::LongKey, "above 128 bytes in an output that has them, 4"),
 ];
 
 #[derive(Default)]
-pub struct Seen([u64; SIGHTS.len()]);
+pub struct Seen {
+    counts: [u64; SIGHTS.len()],
+    /// Whether no steps made the exchange.
+    made_up: bool,
+}
 
 impl Seen {
     fn add(&mut self, sight: Sight, when: bool) {
-        self.0[sight as usize] += when as u64;
+        self.counts[sight as usize] += when as u64;
     }
 
     /// A call and its number, and the bytes that it left for the exchange.
@@ -288,6 +309,20 @@ impl Seen {
                 self.add(Sight::WideSignature, wide(*signature));
                 self.add(Sight::WideHostKey, wide(*host_key));
             }
+            Call::Derive { letter, length, key } => {
+                let complete = exchange_of(exchange).map(|e| e.stage == Stage::Complete);
+                self.add(Sight::Key, number == 0);
+                self.add(Sight::KeyOfRecord, number == 0 && self.made_up);
+                self.add(Sight::KeyEarly, number == 1 && complete == Some(false));
+                self.add(Sight::KeyUnfit, number == 1 && complete == Some(true));
+                self.add(Sight::WideLetter, wide(*letter));
+                self.add(Sight::LongKey, number == 4 && *length > plain::KEY_MOST as u64 && key.len as u64 >= *length);
+            }
+            _ => {}
+        }
+        match call {
+            Call::Record(_) => self.made_up = true,
+            Call::Start { .. } | Call::Lend(_) | Call::Old { .. } => self.made_up = false,
             _ => {}
         }
         if entry(call).is_none() {
@@ -299,8 +334,8 @@ impl Seen {
         if exchange_of(exchange).is_none() {
             let why = match exchange {
                 _ if exchange.len() != EXCHANGE => Sight::OtherLength,
-                [1, stage, ..] if *stage > 6 => Sight::OtherStage,
-                [1, ..] => Sight::OtherFail,
+                [MARK, stage, ..] if *stage > 6 => Sight::OtherStage,
+                [MARK, ..] => Sight::OtherFail,
                 _ => Sight::OtherMark,
             };
             self.add(why, true);
@@ -310,9 +345,9 @@ impl Seen {
     /// Prints what was seen; false where something never was.
     pub fn print(&self) -> bool {
         for (sight, what) in SIGHTS {
-            println!("{:>9} {}", self.0[sight as usize], what);
+            println!("{:>9} {}", self.counts[sight as usize], what);
         }
-        self.0.iter().all(|count| *count > 0)
+        self.counts.iter().all(|count| *count > 0)
     }
 }
 

@@ -25,7 +25,7 @@ pub struct Side {
     tried: Vec<u8>,
 }
 
-/// A role or method as the plain implementation takes it: 255, which is neither, where a byte cannot say it.
+/// A role, a method or a letter as the plain implementation takes it: 255, which is none, where a byte cannot say it.
 fn byte(n: u64) -> u8 {
     u8::try_from(n).unwrap_or(255)
 }
@@ -39,6 +39,11 @@ fn kem_of(method: u8, kem: u64) -> Kem {
         _ if plain::method(method).is_some_and(|m| m.hybrid) => Kem::Absent,
         _ => Kem::Done,
     }
+}
+
+/// A key of an exchange in lent bytes, of which those that no exchange has are answered 1.
+pub fn derived(exchange: &[u8], letter: u64, length: u64, key: &mut [u8]) -> u64 {
+    exchange_of(exchange).map_or(1, |e| plain::derive(&e, byte(letter), length as usize, key).into())
 }
 
 fn six(parts: &[Part]) -> [u64; 6] {
@@ -66,7 +71,8 @@ impl Side {
             Call::Poke(at, bytes) => self.room[*at..at + bytes.len()].copy_from_slice(bytes),
             Call::Forge(field, to) => forge(&mut self.exchange, *field, *to),
             Call::Lend(bytes) => self.exchange.clone_from(bytes),
-            Call::OwnC { out, .. } => self.out = out.bytes(),
+            Call::Record(e) => self.exchange = bytes_of(e).to_vec(),
+            Call::OwnC { out, .. } | Call::Derive { key: out, .. } => self.out = out.bytes(),
             Call::Sign { out, k_out, .. } => {
                 self.out = out.bytes();
                 self.k_out = k_out.bytes();
@@ -104,13 +110,14 @@ impl Side {
         self.before(call);
         let mut given = Given::default();
         match call {
-            Call::Room(_) | Call::Poke(..) | Call::Forge(..) | Call::Lend(_) | Call::Old { .. } => {}
+            Call::Room(_) | Call::Poke(..) | Call::Forge(..) | Call::Lend(_) | Call::Record(_) | Call::Old { .. } => {}
             Call::Start { .. } if self.exchange.len() != EXCHANGE => given.number = 1,
             Call::Start { role, method, vc, vs, ic, is } => {
                 let a = plain::start(byte(*role), byte(*method), vc, vs, ic, is, &mut self.room);
                 given.number = a.number.into();
                 self.exchange.copy_from_slice(&bytes_of(&a.exchange));
             }
+            Call::Derive { letter, length, .. } => given.number = derived(&self.exchange, *letter, *length, &mut self.out),
             _ => match exchange_of(&self.exchange) {
                 Some(e) => given = self.step(e, call),
                 None => {

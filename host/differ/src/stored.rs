@@ -1,12 +1,13 @@
-//! An exchange as the bytes that a host lends: the mark 1, stage, fail number, role and method a byte each; the lengths of V_C,
-//! V_S, I_C, I_S, K_S, C and S, two bytes each, the high one first; and the 71 bytes of K's record.
+//! An exchange as the bytes that a host lends: the mark 2, stage, fail number, role and method a byte each; the lengths of V_C,
+//! V_S, I_C, I_S, K_S, C and S, two bytes each, the high one first; the 71 bytes of K's record; and the 64 of H.
 use crate::calls::Field;
 use plain::{Exchange, Stage, K_RECORD};
 
-pub const EXCHANGE: usize = 90;
-const MARK: u8 = 1;
+pub const EXCHANGE: usize = H + plain::H;
+pub const MARK: u8 = 2;
 const LENGTHS: usize = 5;
 const K: usize = LENGTHS + 2 * 7;
+const H: usize = K + K_RECORD;
 
 /// The exchange in lent bytes; none where no exchange has them.
 pub fn exchange_of(bytes: &[u8]) -> Option<Exchange> {
@@ -23,9 +24,10 @@ pub fn exchange_of(bytes: &[u8]) -> Option<Exchange> {
         _ => return None,
     };
     let length = |i: usize| usize::from(u16::from_be_bytes([bytes[LENGTHS + 2 * i], bytes[LENGTHS + 2 * i + 1]]));
-    let mut k = [0; K_RECORD];
-    k.copy_from_slice(&bytes[K..]);
-    Some(Exchange { role, method, stage, lens: std::array::from_fn(length), k })
+    let (mut k, mut h) = ([0; K_RECORD], [0; plain::H]);
+    k.copy_from_slice(&bytes[K..H]);
+    h.copy_from_slice(&bytes[H..]);
+    Some(Exchange { role, method, stage, lens: std::array::from_fn(length), k, h })
 }
 
 /// The bytes of an exchange, whose lengths are below 65,536.
@@ -36,7 +38,8 @@ pub fn bytes_of(e: &Exchange) -> [u8; EXCHANGE] {
     for (two, len) in bytes[LENGTHS..K].chunks_exact_mut(2).zip(e.lens) {
         two.copy_from_slice(&u16::try_from(len).expect("a length of two bytes").to_be_bytes());
     }
-    bytes[K..].copy_from_slice(&e.k);
+    bytes[K..H].copy_from_slice(&e.k);
+    bytes[H..].copy_from_slice(&e.h);
     bytes
 }
 
@@ -64,6 +67,7 @@ pub fn forge(bytes: &mut [u8], field: Field, to: u16) {
         Field::Method => (4, &[low][..]),
         Field::Length(i) => (LENGTHS + 2 * i, &[high, low][..]),
         Field::K(i) => (K + i, &[low][..]),
+        Field::H(i) => (H + i, &[low][..]),
     };
     if let Some(place) = bytes.get_mut(at..at + new.len()) {
         place.copy_from_slice(new);

@@ -3,7 +3,7 @@
 /// What INIT's and REPLY's steps answer, and the calls that tell of them.
 const READ: &[u64] = &[0, 1, 3, 10, 11, 12, 13, 14, 15];
 
-pub const ENTRIES: [(&str, &[u64]); 26] = [
+pub const ENTRIES: [(&str, &[u64]); 27] = [
     ("read_string", &[0, 12]),
     ("write_string", &[0, 4, 5]),
     ("read_mpint", &[0, 12, 22]),
@@ -27,6 +27,7 @@ pub const ENTRIES: [(&str, &[u64]); 26] = [
     ("reply_s", READ),
     ("reply_signature", READ),
     ("state", &[0, 1]),
+    ("derive", &[0, 1, 4, 5]),
     ("hash_start", &[0, 4]),
     ("hash_feed", &[0, 4]),
     ("hash_finish", &[0, 4]),

@@ -55,11 +55,13 @@ pub struct Exchange {
     pub lens: [usize; 7],
     /// K with its four length bytes and zeros after its end; all zeros until the secret step.
     pub k: [u8; K_RECORD],
+    /// H with zeros after the digest; all zeros until the secret step.
+    pub h: [u8; H],
 }
 
 impl Default for Exchange {
     fn default() -> Self {
-        Exchange { role: 0, method: 0, stage: Stage::default(), lens: [0; 7], k: [0; K_RECORD] }
+        Exchange { role: 0, method: 0, stage: Stage::default(), lens: [0; 7], k: [0; K_RECORD], h: [0; H] }
     }
 }
 
@@ -103,7 +105,7 @@ fn unchanged(number: u8, exchange: Exchange) -> Answer {
     Answer { number, count: 0, second: 0, h: [0; H], exchange }
 }
 
-/// A peer fault fills the whole room and the K record with zeros and fails the exchange for good, recorded lengths 0.
+/// A peer fault fills the whole room, the K record and H with zeros and fails the exchange for good, recorded lengths 0.
 fn refused(number: u8, e: Exchange, room: &mut [u8]) -> Answer {
     if number < FIRST_PEER_FAULT {
         return unchanged(number, e);
@@ -146,15 +148,18 @@ fn k_len_is_good(row: &Method, k: &[u8; K_RECORD]) -> bool {
     }
 }
 
-/// Whether the recorded lengths fit the stage and the method; with these no sum of them leaves the room.
+/// Whether the recorded lengths fit the stage and the method; with these no sum of them leaves the room. The last step
+/// leaves them as the secret step did.
 fn fits(e: &Exchange, row: &Method) -> bool {
     let [v_c, v_s, i_c, i_s, k_s, c, s] = e.lens;
     let rest = match e.stage {
         Stage::Started => (k_s, c, s) == (0, 0, 0),
         Stage::OwnC | Stage::Init => (k_s, c, s) == (0, row.c_len, 0),
         Stage::Reply => k_s_len_is_good(k_s) && (c, s) == (row.c_len, row.s_len),
-        Stage::Secret => k_s_len_is_good(k_s) && (c, s) == (row.c_len, row.s_len) && k_len_is_good(row, &e.k),
-        Stage::Complete | Stage::Failed(_) => false, // no step is due
+        Stage::Secret | Stage::Complete => {
+            k_s_len_is_good(k_s) && (c, s) == (row.c_len, row.s_len) && k_len_is_good(row, &e.k)
+        }
+        Stage::Failed(_) => false, // nothing is due
     };
     rest && v_len_is_good(v_c) && v_len_is_good(v_s) && i_len_is_good(i_c) && i_len_is_good(i_s)
 }
@@ -215,7 +220,7 @@ pub fn start(role: u8, method: u8, vc: &[u8], vs: &[u8], ic: &[u8], is: &[u8], r
         at = put_string(room, at, field);
     }
     let lens = [vc.len(), vs.len(), ic.len(), is.len(), 0, 0, 0];
-    accepted(0, Exchange { role, method, stage: Stage::Started, lens, k: [0; K_RECORD] })
+    accepted(0, Exchange { role, method, stage: Stage::Started, lens, ..Exchange::default() })
 }
 
 /// The client's own C, which writes INIT.
@@ -401,15 +406,21 @@ pub fn take_secret(
     let count = at + k_len;
     room[at..count].copy_from_slice(&k[..k_len]);
     next.k = k;
-    next.stage = Stage::Secret;
     // over the bytes that stand there, whoever wrote them
-    Answer { h: hash_of(row.digest_len, [&room[..count], &[]]), ..accepted(count, next) }
+    next.h = hash_of(row.digest_len, [&room[..count], &[]]);
+    next.stage = Stage::Secret;
+    Answer { h: next.h, ..accepted(count, next) }
+}
+
+/// K's length in its record, its four length bytes included.
+fn k_len(k: &[u8; K_RECORD]) -> usize {
+    4 + k_body_len(k) as usize
 }
 
 /// Writes K in the last step: the output gets all 71 bytes of the record, and the count is K's own length in it.
 fn write_k(k: &[u8; K_RECORD], k_out: &mut [u8]) -> usize {
     k_out[..K_RECORD].copy_from_slice(k);
-    4 + k_body_len(k) as usize
+    k_len(k)
 }
 
 /// The server's signature, which writes REPLY and K. K_S and S are taken from the room as they stand there, with length
@@ -448,4 +459,11 @@ pub fn verdict(e: Exchange, room: &mut [u8], signature: bool, host_key: bool, k_
     }
     let count = write_k(&e.k, k_out);
     accepted(count, Exchange { stage: Stage::Complete, ..e })
+}
+
+/// What keys are derived from: the method, K and H as the record has them, of an exchange that is complete and fits.
+pub(crate) fn completed(e: &Exchange) -> Option<(&'static Method, &[u8], &[u8])> {
+    let row = methods::method(e.method)?;
+    let complete = matches!(e.role, CLIENT | SERVER) && e.stage == Stage::Complete && fits(e, row);
+    complete.then(|| (row, &e.k[..k_len(&e.k)], &e.h[..row.digest_len]))
 }

@@ -9,6 +9,7 @@
 mod choice;
 mod exchange;
 mod kexinit;
+mod keys;
 mod methods;
 mod sha2;
 mod wire;
@@ -19,6 +20,7 @@ pub use exchange::{
     Kem, Stage, H, INIT_OUT, K_PQ, K_RECORD, REPLY_OUT, ROOM,
 };
 pub use kexinit::{list_is_good, next_name, open_list, write_kexinit, Cursor, Next, Opened};
+pub use keys::{derive, key_of, KEY_MOST};
 pub use methods::{method, method_number, Method};
 pub use sha2::{hash_start, Hash, DIGEST, HASH_BYTES, HASH_MOST};
 pub use wire::{read_mpint, read_string, write_mpint, write_string, MpintRead, Part, StringRead, Written};

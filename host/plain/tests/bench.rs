@@ -25,7 +25,7 @@ fn answers(script: &str) -> Vec<String> {
     out.lines().map(str::to_string).collect()
 }
 
-/// The answers without the digests of K record and room.
+/// The answers without the digests of K record, H and room.
 fn brief(script: &str) -> Vec<String> {
     answers(script).iter().map(|line| line.split(" k=").next().unwrap().to_string()).collect()
 }
@@ -133,12 +133,64 @@ fn an_exchange_as_client_and_as_server() {
     room.resize(14_156, 0);
     let mut k = string(&[1; 32]);
     k.resize(71, 0);
-    let tail = format!(" k={} room={}", digest(&k), digest(&room));
+    let h: Vec<u8> = (0..64).map(|at| u8::from_str_radix(&h[2 * at..2 * at + 2], 16).unwrap()).collect();
+    let tail = format!(" k={} h={} room={}", digest(&k), digest(&h), digest(&room));
     let k_out = format!("out=71:{}", digest(&k));
     assert!(lines[4].ends_with(&tail) && lines[9].ends_with(&tail));
     assert_eq!(lines[5], format!("0 36 {k_out} | ex 1.1.complete.0.1,1,1,2,1,32,32{tail}"));
     k.push(0xff);
     assert!(lines[10].contains(&format!("out=72:{}", digest(&k))));
+}
+
+/// The lines as they were when a landing was the last one: without the tokens that came later.
+fn without(lines: Vec<String>, later: &[&str]) -> Vec<String> {
+    let is_later =
+        |word: &&str| later.iter().any(|name| word.strip_prefix(name).is_some_and(|rest| rest.starts_with('=')));
+    lines.iter().map(|line| line.split(' ').filter(|word| !is_later(word)).collect::<Vec<_>>().join(" ")).collect()
+}
+
+#[test]
+fn examples_of_the_landings() {
+    let sha2 = include_str!("../../../tests/examples/102.script");
+    let keys = include_str!("../../../tests/examples/105.script");
+    let lines = |text: &str| text.lines().map(str::to_string).collect::<Vec<_>>();
+    assert_eq!(without(answers(sha2), &["h"]), lines(include_str!("../../../tests/examples/102.answers")));
+    assert_eq!(answers(keys), lines(include_str!("../../../tests/examples/105.answers")));
+}
+
+#[test]
+fn records_put_together() {
+    let state = |stage: &str, k: &[u8], h: &[u8]| {
+        let padded = |bytes: &[u8], len: usize| [bytes, &vec![0; len - bytes.len()]].concat();
+        let (k, h) = (digest(&padded(k, 71)), digest(&padded(h, 64)));
+        format!("| ex 1.1.{stage}.0.1,1,1,1,1,32,32 k={k} h={h} room=0000000000000000")
+    };
+    let set = "set role 1\nset method 1\nset stage complete\nset l0 1\nset l1 1\nset l2 1\nset l3 1\nset l4 1\n\
+               set l5 32\nset l6 32\n";
+    let script = format!(
+        "{set}derive 65 1 ff\nput k 00000001\nput k -\nset h63 255\nput h 0102\nset h63 0\nderive 65 1 eeee\n\
+         derive 71 1 eeee\nderive 70 18446744073709551615 eeee\nderive 70 3 eeee\nset stage secret\nderive 70 2 eeee\n"
+    );
+    let last = [&[1, 2][..], &[0; 61], &[255]].concat();
+    let (k, h) = (&[0, 0, 0, 1][..], &[1, 2][..]);
+    let ee = |len: usize| format!("out={len}:{}", digest(&vec![0xee; len]));
+    // the first byte of SHA-256 of K, H, the letter and H, by Python
+    let key = digest(&[0xe9, 0xee]);
+    let expected = [
+        format!("1 out=1:{} {}", digest(&[0xff]), state("complete", &[], &[])),
+        format!("0 {}", state("complete", k, &[])),
+        format!("0 {}", state("complete", k, &[])),
+        format!("0 {}", state("complete", k, &[&[0; 63][..], &[255]].concat())),
+        format!("0 {}", state("complete", k, &last)),
+        format!("0 {}", state("complete", k, h)),
+        format!("0 out=2:{key} {}", state("complete", k, h)),
+        format!("4 {} {}", ee(2), state("complete", k, h)),
+        format!("4 {} {}", ee(2), state("complete", k, h)),
+        format!("5 {} {}", ee(2), state("complete", k, h)),
+        format!("0 {}", state("secret", k, h)),
+        format!("1 {} {}", ee(2), state("secret", k, h)),
+    ];
+    assert_eq!(answers(&script)[10..], expected);
 }
 
 #[test]
@@ -255,6 +307,16 @@ fn bad_lines() {
         "set l7 0",
         "set k71 0",
         "set k0 256",
+        "set h64 0",
+        "set h0 256",
+        "set h 0",
+        "put",
+        "put k",
+        "put k 00*72",
+        "put h 00*65",
+        "put room 00",
+        "put h0 00",
+        "put k 0",
         "set what 0",
         "set fail 256",
         "blank 1",
@@ -274,6 +336,11 @@ fn bad_lines() {
         "shaset total 18446744073709551616",
         "shaset held 0",
         "verdict 2 0 -",
+        "derive 65 16",
+        "derive 256 16 -",
+        "derive A 16 -",
+        "derive 65 18446744073709551616 -",
+        "derive 65 16 - -",
         "verdict 0 yes -",
         "next 1",
         "rstr \u{e9}",

@@ -66,11 +66,12 @@ fn hashed(number: u8, parts: &[&[u8]]) -> Vec<u8> {
     hash.finish().1[..row(number).digest_len].to_vec()
 }
 
-/// H as it is handed out: zeros after the digest.
+/// H as it is handed out, and in the record: zeros after the digest.
 fn is_h(answer: &Answer, number: u8, room: &[u8]) {
     let mut h = hashed(number, &[&room[..answer.count]]);
     h.resize(H, 0);
     assert_eq!(answer.h[..], h);
+    assert_eq!(answer.exchange.h[..], h);
 }
 
 fn started(role: u8, number: u8, room: &mut [u8]) -> Exchange {
@@ -512,7 +513,7 @@ fn client_and_server_agree_in_every_method() {
         check(&client_room, &hash, 0xc1);
         let client = answer.exchange;
         assert_eq!(client.lens, server.lens);
-        assert_eq!(client.k, server.k);
+        assert_eq!((client.k, client.h), (server.k, server.h));
 
         let mut again = [0xcd; 73];
         let answer = verdict(client, &mut client_room, true, true, &mut again);
@@ -844,7 +845,8 @@ fn no_record_and_no_payload_makes_a_step_panic() {
         let mut k = [0; K_RECORD];
         k[3] = if row.hybrid { odd(&mut any, row.digest_len) } else { any.below(72) } as u8;
         k[any.below(4)] |= (any.below(20) / 19) as u8;
-        let e = Exchange { role, method: number, stage, lens, k };
+        let h = std::array::from_fn(|_| any.below(256) as u8);
+        let e = Exchange { role, method: number, stage, lens, k, h };
 
         let mut room = vec![0x42; odd(&mut any, ROOM).min(ROOM + 1).saturating_sub(any.below(9) / 8)];
         let before = room.clone();

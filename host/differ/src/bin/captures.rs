@@ -1,7 +1,8 @@
 //! captures FOLDER: every captured exchange through the boundary: both KEXINITs read and written again, the choice, and in both
-//! roles every step, the messages, K, the hash input, and H. Of the primitives' outputs X and K_PQ alone are handed in.
+//! roles every step, the messages, K, the hash input, H, and keys as plain Rust derives them from the captured K and H. Of the primitives'
+//! outputs X and K_PQ alone are handed in.
 use castulfrisa::{choose, open_list, raw, same_version, write_kexinit, EXCHANGE, H_SIZE, INIT, REPLY, ROOM};
-use castulfrisa::{Classical, Client, Greeting, Kem, List, Method, Own, Refusal, Role, Server, Stopped, K};
+use castulfrisa::{Classical, Client, Greeting, Kem, Key, Letter, List, Method, Own, Refusal, Role, Server, Stopped, K, KEY_MOST};
 use differ::lists::PartEntry;
 use differ::stored::bytes_of;
 use plain::Stage;
@@ -96,8 +97,8 @@ const AND_C: [bool; 7] = [true, true, true, true, false, true, false];
 const ALL: [bool; 7] = [true; 7];
 
 impl Steps {
-    /// A step that was answered: accepted; every byte of the exchange and of the room as they must be.
-    fn after(&self, step: &str, number: u64, stage: Stage, stand: [bool; 7], k: &[u8]) -> Result<(), String> {
+    /// A step that was answered: accepted; every byte of the exchange and of the room as they must be, and no key before the last.
+    fn after(&self, step: &str, number: u64, stage: Stage, stand: [bool; 7], k: &[u8], h: &[u8]) -> Result<(), String> {
         if number != 0 {
             return Err(format!("{}: {}", step, Refusal::of(number)));
         }
@@ -111,9 +112,36 @@ impl Steps {
         room.extend(k);
         room.resize(self.room.len(), LENT);
         e.k[..k.len()].copy_from_slice(k);
+        e.h[..h.len()].copy_from_slice(h);
         held(&format!("{}: the room", step), &self.room, &room)?;
-        held(&format!("{}: the exchange", step), &self.exchange, &bytes_of(&e))
+        held(&format!("{}: the exchange", step), &self.exchange, &bytes_of(&e))?;
+        let mut key = [LENT; 16];
+        if stage != Stage::Complete && (raw::derive(&self.exchange, 65, 16, &mut key), key) != (1, [LENT; 16]) {
+            return Err(format!("{}: a key before the exchange is complete", step));
+        }
+        Ok(())
     }
+
+    /// Every key of a complete exchange: of K and H, and the exchange stays.
+    fn keys(&self, k: &[u8], h: &[u8]) -> Result<(), String> {
+        let before = self.exchange;
+        for letter in Letter::ALL {
+            for length in 1..=KEY_MOST {
+                let mut out = [LENT; KEY_MOST + 2];
+                let number = raw::derive(&self.exchange, letter.number(), length as u64, &mut out);
+                counted("a key's number", number, 0)?;
+                output("a key", &out, &key(self.method, k, h, letter, length), 0)?;
+            }
+        }
+        held("the exchange behind the keys", &self.exchange, &before)
+    }
+}
+
+/// A key by the plain implementation.
+fn key(method: Method, k: &[u8], h: &[u8], letter: Letter, length: usize) -> Vec<u8> {
+    let mut key = vec![0; length];
+    plain::key_of(method.sizes().digest_len as u8, k, h, letter.number() as u8, h, &mut key);
+    key
 }
 
 fn counted(what: &str, have: u64, want: usize) -> Result<(), String> {
@@ -152,24 +180,25 @@ fn stepped(c: &Capture, role: Role, method: Method, room: usize) -> Result<(), S
     let (x, k_pq, k) = (field("X")?, field("K_PQ")?, field("K")?);
     let (init, reply, signature) = (field("INIT")?, field("REPLY")?, field("signature")?);
     let kem = if k_pq.is_empty() { 0 } else { 2 };
-    let mut h_due = field("H")?;
+    let digest = field("H")?;
+    let mut h_due = digest.clone();
     h_due.resize(H_SIZE, 0);
     let hashed = c.word("hash_input_length")?.parse().map_err(|_| "hash_input_length")?;
     let mut s = Steps { role, method, fields, room: vec![LENT; room], exchange: [LENT; EXCHANGE] };
     let (mut out, mut k_out, mut count, mut h) = (vec![LENT; 6000], [LENT; K::SIZE + 4], 0, [LENT; H_SIZE]);
 
     let n = raw::start(&mut s.exchange, role as u64, method.number(), &vc, &vs, &ic, &is, &mut s.room);
-    s.after("start", n, Stage::Started, V_AND_I, b"")?;
+    s.after("start", n, Stage::Started, V_AND_I, b"", b"")?;
     let x_count = x.len() as u64;
     if role == Role::Client {
         let n = raw::own_c(&mut s.exchange, &mut s.room, &value_c, &mut out, &mut count);
-        s.after("own C", n, Stage::OwnC, AND_C, b"")?;
+        s.after("own C", n, Stage::OwnC, AND_C, b"", b"")?;
         counted("INIT", count, init.len())?;
         output("INIT", &out, &init, 0)?;
 
         let (before, mut parts) = (s.exchange, raw::Reply::default());
         let n = raw::read_reply(&mut s.exchange, &mut s.room, &reply, &mut parts);
-        s.after("REPLY", n, Stage::Reply, ALL, b"")?;
+        s.after("REPLY", n, Stage::Reply, ALL, b"", b"")?;
         let asks: [(&str, PartEntry, raw::Part, &[u8]); 3] = [
             ("K_S of REPLY", raw::reply_host_key, parts.host_key, &ks),
             ("S of REPLY", raw::reply_s, parts.s, &value_s),
@@ -186,16 +215,16 @@ fn stepped(c: &Capture, role: Role, method: Method, room: usize) -> Result<(), S
         }
 
         let n = raw::take_secret(&mut s.exchange, &mut s.room, 1, x_count, &x, kem, &k_pq, b"", b"", &mut count, &mut h);
-        s.after("secret", n, Stage::Secret, ALL, &k)?;
+        s.after("secret", n, Stage::Secret, ALL, &k, &digest)?;
         counted("the hash input", count, hashed)?;
         held("H", &h, &h_due)?;
         let n = raw::verdict(&mut s.exchange, &mut s.room, 1, 1, &mut k_out, &mut count);
-        s.after("verdict", n, Stage::Complete, ALL, &k)?;
+        s.after("verdict", n, Stage::Complete, ALL, &k, &digest)?;
         counted("K", count, k.len())?;
     } else {
         let (before, mut told) = (s.exchange, raw::Part::default());
         let n = raw::read_init(&mut s.exchange, &mut s.room, &init, &mut told);
-        s.after("INIT", n, Stage::Init, AND_C, b"")?;
+        s.after("INIT", n, Stage::Init, AND_C, b"", b"")?;
         is_field("C of INIT", &init, told, &value_c)?;
         for (exchange, want) in [(&before, Some(told)), (&s.exchange, None)] {
             let mut part = raw::Part::default();
@@ -204,17 +233,18 @@ fn stepped(c: &Capture, role: Role, method: Method, room: usize) -> Result<(), S
         }
 
         let n = raw::take_secret(&mut s.exchange, &mut s.room, 1, x_count, &x, kem, &k_pq, &ks, &value_s, &mut count, &mut h);
-        s.after("secret", n, Stage::Secret, ALL, &k)?;
+        s.after("secret", n, Stage::Secret, ALL, &k, &digest)?;
         counted("the hash input", count, hashed)?;
         held("H", &h, &h_due)?;
         let mut counts = raw::Signed::default();
         let n = raw::sign(&mut s.exchange, &s.room, &signature, &mut out, &mut k_out, &mut counts);
-        s.after("signature", n, Stage::Complete, ALL, &k)?;
+        s.after("signature", n, Stage::Complete, ALL, &k, &digest)?;
         counted("REPLY", counts.reply, reply.len())?;
         counted("K", counts.k, k.len())?;
         output("REPLY", &out, &reply, 0)?;
     }
-    output("K", &k_out, &k, K::SIZE)
+    output("K", &k_out, &k, K::SIZE)?;
+    s.keys(&k, &digest)
 }
 
 fn told<E>(step: &'static str) -> impl Fn(Stopped<E>) -> String {
@@ -240,6 +270,12 @@ fn wrapped(c: &Capture, method: Method) -> Result<(Role, usize), String> {
     held("its length", want.len().to_string().as_bytes(), c.word("hash_input_length")?.as_bytes())?;
     let h = c.bytes("H")?;
     let hashed = |input: &[u8], of: &[u8]| held("the hash input", input, &want).and_then(|()| held("H", of, &h));
+    let captured_k = c.bytes("K")?;
+    let is_key = |letter: Letter, derive: &dyn Fn(&mut Key) -> Result<(), Refusal>| {
+        let mut of = Key::new();
+        derive(&mut of).map_err(|r| format!("a key: {}", r))?;
+        held("a key", of.as_bytes(), &key(method, &captured_k, &h, letter, 64))
+    };
 
     let (mut exchange, mut room) = ([LENT; EXCHANGE], vec![LENT; ROOM]);
     let mut k = K::new();
@@ -258,6 +294,7 @@ fn wrapped(c: &Capture, method: Method) -> Result<(Role, usize), String> {
             hashed(e.hash_input(), e.h())?;
             let e = e.verdict(true, true, &mut k).map_err(told("verdict"))?;
             hashed(e.hash_input(), e.h())?;
+            Letter::ALL.into_iter().try_for_each(|letter| is_key(letter, &|key| e.derive(letter, 64, key)))?;
         }
         Role::Server => {
             let e = Server::start(method, greeting, &mut exchange, &mut room).map_err(|r| format!("start: {}", r))?;
@@ -270,9 +307,10 @@ fn wrapped(c: &Capture, method: Method) -> Result<(Role, usize), String> {
             let (e, sent) = e.sign(&signature, &mut out, &mut k).map_err(told("signature"))?;
             held("REPLY", sent, &reply)?;
             hashed(e.hash_input(), e.h())?;
+            Letter::ALL.into_iter().try_for_each(|letter| is_key(letter, &|key| e.derive(letter, 64, key)))?;
         }
     }
-    held("K", k.as_bytes(), &c.bytes("K")?)?;
+    held("K", k.as_bytes(), &captured_k)?;
     held("the exchange after it", &exchange, &[0; EXCHANGE])?;
     held("the room after it", &room, &[0; ROOM])?;
     Ok((role, want.len()))
@@ -287,7 +325,7 @@ fn run(c: &Capture) -> Result<String, String> {
         stepped(c, role, method, room).map_err(|e| format!("as {:?}: {}", role, e))?;
     }
     Ok(format!(
-        "{:?}, method {}: {} names written again, messages, K, {} bytes of hash input and H, the steps in both roles{}",
+        "{:?}, method {}: {} names written again, messages, K, {} bytes of hash input, H and keys, the steps in both roles{}",
         role, method.number(), names, hashed, guess
     ))
 }

@@ -4,6 +4,7 @@ use differ::codecs::{encoded, hex, integer, list_number, output, payload, ten};
 use differ::hashes;
 use differ::model::Side;
 use differ::random::Random;
+use differ::stored::numbers_of;
 use std::io::{self, BufWriter, Write};
 
 const STAGES: [&str; 7] = ["started", "own_c", "init", "reply", "secret", "complete", "failed"];
@@ -39,8 +40,10 @@ fn line(call: &Call) -> Option<String> {
             Field::Fail => format!("set fail {}", to),
             Field::Length(i) => format!("set l{} {}", i, to),
             Field::K(i) => format!("set k{} {}", i, to),
+            Field::H(i) => format!("set h{} {}", i, to),
             Field::Mark => return None,
         },
+        Call::Record(e) => record(e),
         Call::Lend(_) | Call::Old { .. } => return None,
         Call::Start { role, method, vc, vs, ic, is } => {
             format!("start {} {} {} {} {} {}", small(*role, 255)?, small(*method, 255)?, h(vc), h(vs), h(ic), h(is))
@@ -57,7 +60,18 @@ fn line(call: &Call) -> Option<String> {
         Call::Verdict { signature, host_key, k_out } => {
             format!("verdict {} {} {}", small(*signature, 1)?, small(*host_key, 1)?, o(k_out))
         }
+        Call::Derive { letter, length, key } => format!("derive {} {} {}", small(*letter, 255)?, length, o(key)),
     })
+}
+
+/// An exchange made up as a whole, as lines.
+fn record(e: &plain::Exchange) -> String {
+    let (stage, fail) = numbers_of(e.stage);
+    let lengths = e.lens.iter().enumerate().map(|(i, len)| format!("set l{} {}\n", i, len)).collect::<String>();
+    format!(
+        "set role {}\nset method {}\nset fail {}\nset stage {}\n{}put k {}\nput h {}",
+        e.role, e.method, fail, STAGES[usize::from(stage)], lengths, h(&e.k), h(&e.h)
+    )
 }
 
 fn list(r: &mut Random, out: &mut impl Write) -> io::Result<()> {

@@ -1,10 +1,13 @@
-//! timing: SHA-2 over 16 KiB fed in one part; and from the start through the secret step as server, H included, all fields at their
-//! largest; on the compiled core and on the plain implementation in turns. Medians of 1,001, each of so many exchanges that the clock's
-//! own step does not show; rooms cleared first.
+//! timing: SHA-2 over 16 KiB fed in one part; from the start through the secret step as server, H included, all fields at their
+//! largest; and a key of 64 bytes; on the compiled core and on the plain implementation in turns. Medians of 1,001, each of so many exchanges
+//! or keys that the clock's own step does not show; rooms cleared first.
 //!
-//! timing core|plain METHOD|choice|sha256|sha384|sha512 COUNT: does that alone, so often, and prints nothing, for a counter of
+//! timing core|plain METHOD|choice|key|sha256|sha384|sha512 COUNT: does that alone, so often, and prints nothing, for a counter of
 //! instructions.
 use castulfrisa::{raw, EXCHANGE, HASH_SIZE, H_SIZE};
+use differ::calls::complete;
+use differ::random::Random;
+use differ::stored::bytes_of;
 use std::hint::black_box;
 use std::process::ExitCode;
 use std::time::Instant;
@@ -12,6 +15,8 @@ use std::time::Instant;
 const TURNS: usize = 1001;
 const EACH: usize = 16;
 const HASHED: usize = 16 * 1024;
+const KEY: usize = 64;
+const LETTER: u8 = b'C';
 const HASHES: [(&str, u8); 3] = [("sha256", 32), ("sha384", 48), ("sha512", 64)];
 
 /// What a run hands back: a count, and H or a digest.
@@ -149,6 +154,47 @@ fn hashes() {
     }
 }
 
+/// A complete exchange of method 1 with the longest K, on either side.
+struct Keyed {
+    record: plain::Exchange,
+    bytes: [u8; EXCHANGE],
+}
+
+fn keyed() -> Keyed {
+    let mut record = complete(&mut Random::new(1, 1), 1, 1);
+    record.k[..4].copy_from_slice(&[0, 0, 0, 33]);
+    Keyed { bytes: bytes_of(&record), record }
+}
+
+fn key_on_core(of: &Keyed) -> [u8; KEY] {
+    let mut key = [0; KEY];
+    raw::derive(&of.bytes, LETTER.into(), KEY as u64, &mut key);
+    key
+}
+
+fn key_on_plain(of: &Keyed) -> [u8; KEY] {
+    let mut key = [0; KEY];
+    plain::derive(&of.record, LETTER, KEY, &mut key);
+    key
+}
+
+fn keys() {
+    let of = keyed();
+    assert!(key_on_core(&of) == key_on_plain(&of) && key_on_core(&of) != [0; KEY]);
+    let time = |run: fn(&Keyed) -> [u8; KEY]| {
+        let of = &of;
+        move || {
+            let from = Instant::now();
+            for _ in 0..EACH {
+                black_box(run(black_box(of)));
+            }
+            from.elapsed().as_nanos() as f64 / EACH as f64
+        }
+    };
+    let (core, model) = in_turns(time(key_on_core), time(key_on_plain));
+    println!("method 1: a key of {} bytes; core {:.0} ns, plain Rust {:.0} ns, {:.2} times", KEY, core, model, core / model);
+}
+
 /// The work that the words name; false where they name none.
 fn counted(words: &[String]) -> bool {
     let [side, what, count] = words else { return false };
@@ -162,6 +208,13 @@ fn counted(words: &[String]) -> bool {
         for _ in 0..count {
             let (client, server) = (black_box(&client), black_box(&server));
             black_box(if core { raw::choose(client, server, &mut raw::Choice::default()) } else { plain::choose(client, server).number.into() });
+        }
+        return true;
+    }
+    if what == "key" {
+        let of = keyed();
+        for _ in 0..count {
+            black_box(if core { key_on_core(black_box(&of)) } else { key_on_plain(black_box(&of)) });
         }
         return true;
     }
@@ -186,11 +239,12 @@ fn main() -> ExitCode {
         if counted(&words) {
             return ExitCode::SUCCESS;
         }
-        eprintln!("usage: timing [core|plain METHOD|choice|sha256|sha384|sha512 COUNT]");
+        eprintln!("usage: timing [core|plain METHOD|choice|key|sha256|sha384|sha512 COUNT]");
         return ExitCode::from(2);
     }
     choices();
     hashes();
+    keys();
     let (mut core_room, mut plain_room) = (vec![0; plain::ROOM], vec![0; plain::ROOM]);
     for method in [1, 8] {
         let f = fed(method);

@@ -8,7 +8,7 @@ use std::io::{self, BufRead, BufWriter, Write};
 use std::process::ExitCode;
 
 use plain::{
-    choose, hash_start, init_c, next_name, open_list, own_c, read_init, read_mpint, read_reply, read_string,
+    choose, derive, hash_start, init_c, next_name, open_list, own_c, read_init, read_mpint, read_reply, read_string,
     reply_parts, sign, start, take_secret, verdict, write_kexinit, write_mpint, write_string, Answer, Classical,
     Cursor, Exchange, Hash, Kem, Part, Stage, Written,
 };
@@ -16,9 +16,9 @@ use plain::{
 /// Why a line is bad.
 type Bad = &'static str;
 
-const CALLS: [&str; 24] = [
+const CALLS: [&str; 26] = [
     "rstr", "wstr", "rmpint", "wmpint", "open", "next", "names", "wkex", "choose", "sha", "feed", "finish", "shaset",
-    "room", "poke", "set", "blank", "start", "ownc", "init", "reply", "secret", "sign", "verdict",
+    "room", "poke", "set", "put", "blank", "start", "ownc", "init", "reply", "secret", "sign", "verdict", "derive",
 ];
 
 /// What is kept between lines: one exchange, one room, one view and one hash.
@@ -186,6 +186,16 @@ impl Bench {
                 self.set(field, value)?;
                 Ok("0".to_string())
             }
+            ["put", field, new] => {
+                let new = bytes(new)?;
+                let record = match field {
+                    "k" => &mut self.exchange.k[..],
+                    "h" => &mut self.exchange.h[..],
+                    _ => return Err("unknown field"),
+                };
+                record.get_mut(..new.len()).ok_or("put past the field's end")?.copy_from_slice(&new);
+                Ok("0".to_string())
+            }
             ["blank"] => {
                 self.exchange = Exchange::default();
                 self.fail = 0;
@@ -240,6 +250,11 @@ impl Bench {
                 self.keep(&answer);
                 Ok(format!("{} {} {}", answer.number, answer.count, after(&k_out)))
             }
+            ["derive", letter, length, out] => {
+                let (letter, length, mut out) = (number(letter)?, number(length)?, bytes(out)?);
+                let answer = derive(&self.exchange, letter, length, &mut out);
+                Ok(format!("{answer} {}", after(&out)))
+            }
             [call, ..] if CALLS.contains(&call) => Err("wrong number of tokens"),
             _ => Err("unknown call"),
         }
@@ -267,6 +282,10 @@ impl Bench {
                 let at: usize = number(&field[1..])?;
                 *self.exchange.k.get_mut(at).ok_or("unknown field")? = number(value)?;
             }
+            _ if field.starts_with('h') => {
+                let at: usize = number(&field[1..])?;
+                *self.exchange.h.get_mut(at).ok_or("unknown field")? = number(value)?;
+            }
             _ => return Err("unknown field"),
         }
         // the fail number is 0 unless failed, as in every answer line
@@ -277,7 +296,7 @@ impl Bench {
     }
 
     fn push_record(&self, line: &mut String) {
-        let Exchange { role, method, stage, lens, k } = &self.exchange;
+        let Exchange { role, method, stage, lens, k, h } = &self.exchange;
         let (stage, fail) = match stage {
             Stage::Started => ("started", 0),
             Stage::OwnC => ("own_c", 0),
@@ -288,8 +307,8 @@ impl Bench {
             Stage::Failed(number) => ("failed", *number),
         };
         let lens = lens.map(|len| len.to_string()).join(",");
-        let (k, room) = (digest(k), digest(&self.room));
-        let _ = write!(line, " | ex {role}.{method}.{stage}.{fail}.{lens} k={k} room={room}");
+        let (k, h, room) = (digest(k), digest(h), digest(&self.room));
+        let _ = write!(line, " | ex {role}.{method}.{stage}.{fail}.{lens} k={k} h={h} room={room}");
     }
 }
 
