@@ -187,10 +187,10 @@ pub fn k_in(b: &[u8]) -> &[u8]
 pub fn h_in(b: &[u8]) -> &[u8]
     ensures { λ r. ⌜ now r ≡ hKept (now (b .entry)) ⌝ }
 {
-    if b.len() != limits::EXCHANGE_SIZE {
-        return &b[0..0];
+    if b.len() == limits::EXCHANGE_SIZE {
+        return &b[H_AT..];
     }
-    &b[H_AT..]
+    &b[0..0]
 }
 
 // The exchange in as many bytes as one has, whatever their marks; a blank one in others.

@@ -19,7 +19,7 @@ part-result-end : tie.Need-part-result-end
 part-result-end c = search needs
 
 returns : tie.Need-returns
-returns c = size-left (now (c .before .before .args .b)) [] (drop 90 (now (c .before .before .args .b))) (c .before .if1 .taken)
+returns c = tail-part (now (c .before .before .args .b)) 90 ∙ size-taken (now (c .before .before .args .b)) [] (drop 90 (now (c .before .before .args .b))) (c .before .if1 .taken)
 
 sub-result-2 : tie.Need-sub-result-2
 sub-result-2 c = search needs
@@ -31,7 +31,7 @@ part-result-end-2 : tie.Need-part-result-end-2
 part-result-end-2 c = search needs
 
 returns-2 : tie.Need-returns-2
-returns-2 c = tail-part (now (c .before .before .args .b)) 90 ∙ size-taken (now (c .before .before .args .b)) [] (drop 90 (now (c .before .before .args .b))) (c .before .if1 .left)
+returns-2 c = size-left (now (c .before .before .args .b)) [] (drop 90 (now (c .before .before .args .b))) (c .before .if1 .left)
 
 pub h-in-spec : {M : Type 1} → statement M
 h-in-spec =
