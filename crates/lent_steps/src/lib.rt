@@ -125,7 +125,7 @@ fn h_of(method: u8, room: &[u8], n: usize) -> [u8; limits::H_SIZE]
     d.bytes
 }
 
-// H joins the exchange, and is told behind the hash input's count.
+// H is told behind the hash input's count, and joins the exchange: from where it is told, so that no copy is taken apart byte by byte.
 fn join_hash(
     ex: &mut [u8],
     room: &[u8],
@@ -140,10 +140,9 @@ fn join_hash(
         let d = hOf method (take n (now (room .entry))) in
         ⌜ (now (count .exit) ∷ now (h .exit) ≡ n ∷ d) × (now (ex .exit) ≡ bySize b (laid b 90 d) b) ⌝ }
 {
-    let d = h_of(method, room, n);
-    changes::put_h(ex, &d);
+    *h = h_of(method, room, n);
+    changes::put_h(ex, &h[..]);
     *count = n as u64;
-    *h = d;
 }
 
 // The secret: K joins the room and the exchange, and H the exchange. Told: the hash input's count, and H; zeros on a refusal.

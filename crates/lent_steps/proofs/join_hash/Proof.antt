@@ -12,9 +12,6 @@ use Rattle.lent_steps.proofs.join_hash.Tie as tie
 h-of-requires : tie.Need-h-of-requires
 h-of-requires c κs = search needs
 
-slice-aggregate-put-h : tie.Need-slice-aggregate-put-h
-slice-aggregate-put-h c = search needs
-
 put-h-requires : tie.Need-put-h-requires
 put-h-requires c κs = search needs
 
@@ -23,9 +20,9 @@ same-length c = search needs
 
 returns : tie.Need-returns
 returns c =
-    let b = now (c .before .before .before .before .before .before .before .before .args .ex) in
-    let e = c .before .before .before .before .before .h-of .ensures in
-    (ap (λ (d : List ℕ). c .before .before .before .before .before .before .before .before .args .n ∷ d) e, c .before .before .put-h .ensures ∙ ap (λ (d : List ℕ). bySize b (laid b 90 d) b) e)
+    let b = now (c .before .before .before .before .before .before .before .before .before .args .ex) in
+    let e = c .before .before .before .before .before .before .h-of .ensures in
+    (ap (λ (d : List ℕ). c .before .before .before .before .before .before .before .before .before .args .n ∷ d) e, c .before .before .put-h .ensures ∙ ap (λ (d : List ℕ). bySize b (laid b 90 d) b) e)
 
 pub join-hash-spec : {M : Type 1} → statement M
-join-hash-spec = tie.close (tie.spec h-of-requires slice-aggregate-put-h put-h-requires same-length returns)
+join-hash-spec = tie.close (tie.spec h-of-requires put-h-requires same-length returns)
