@@ -161,7 +161,7 @@ enum castulfrisa_stage {
     CASTULFRISA_C_SENT = 1,      /* client: own C went out */
     CASTULFRISA_INIT_READ = 2,   /* server: C came in */
     CASTULFRISA_REPLY_READ = 3,  /* client: K_S and S came in */
-    CASTULFRISA_SECRET_DONE = 4, /* K is known, and the hash input is whole */
+    CASTULFRISA_SECRET_DONE = 4, /* K and H are known, and the hash input is whole */
     CASTULFRISA_COMPLETE = 5,    /* every step of the role was accepted */
     CASTULFRISA_FAILED = 6       /* ended for good */
 };

@@ -164,7 +164,7 @@ bool draw_kem(uint64_t method, EVP_PKEY **own, uint8_t *out, size_t room, size_t
 bool encapsulate(uint64_t method, span key, uint8_t *out, size_t room, uint8_t k_pq[CASTULFRISA_K_PQ_SIZE], size_t *k_pq_len);
 bool decapsulate(EVP_PKEY *own, span ciphertext, uint8_t k_pq[CASTULFRISA_K_PQ_SIZE], size_t *k_pq_len);
 
-/* Clears the stack below the caller as deep as libcrypto may have gone with X and K_PQ, which castulfrisa_wipe_stack does not know. */
+/* Clears the stack below the caller as deep as libcrypto may have gone with X, K_PQ and the keys, which castulfrisa_wipe_stack does not know. */
 void wipe_stack(void);
 
 /* ---- hostkey.c: host keys and their signatures over H */

@@ -223,6 +223,7 @@ static bool derive_keys(struct kex *k)
         taken = accepted(k, "keys", number) && (seal_take_keys(s, &keys) || trouble("libcrypto does not take the keys"));
         castulfrisa_wipe((uint8_t *)&keys, sizeof keys);
     }
+    wipe_stack();
     return taken;
 }
 
@@ -239,7 +240,6 @@ static void forget_secrets(struct kex *k)
     castulfrisa_wipe(k->room, sizeof k->room);
     castulfrisa_wipe(k->x, sizeof k->x);
     castulfrisa_wipe(k->k_pq, sizeof k->k_pq);
-    castulfrisa_wipe(k->k, sizeof k->k);
 }
 
 static bool exchange_newkeys(struct kex *k)
@@ -281,6 +281,7 @@ static bool print_results(struct kex *k, const char *print, enum known known)
 /* From the exchange that is complete to the first service. */
 static bool finish(struct kex *k, const char *print, enum known known)
 {
+    castulfrisa_wipe(k->k, sizeof k->k); /* the keys come from the exchange */
     bool keyed = derive_keys(k);
     forget_secrets(k);
     if (!keyed || !exchange_newkeys(k) || !print_results(k, print, known)) return false;

@@ -324,7 +324,7 @@ pub extern "C" fn castulfrisa_verdict(
     lent_client::verdict(ex, room, a, b, k_out, count) as u64
 }
 
-// ---- calls on an exchange that are no steps: they tell, and change nothing
+// ---- calls on an exchange that are no steps: they tell, or derive a key, and change neither exchange nor room
 
 // The number that INIT's step would answer, and C's place.
 #[no_mangle]

@@ -3,3 +3,4 @@ pub mod Holds
 pub mod HandsOut
 pub mod Reached
 pub mod Effects
+pub mod Fewer

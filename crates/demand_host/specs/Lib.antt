@@ -3,3 +3,4 @@ pub mod Told
 pub mod Demand3
 pub mod HandedOut
 pub mod Completed
+pub mod FewerBytes

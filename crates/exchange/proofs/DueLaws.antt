@@ -12,7 +12,8 @@ use Rattle.methods.specs.declared.Method.{Method}
 use Rattle.exchange.specs.Causes.{methodOk, roleOk}
 use Rattle.exchange.specs.Record.{nextStep, cFits, sFits, lengthsFit, kFits, recordFits, due, isComplete, completed}
 use Rattle.exchange.specs.declared.Stage.{Stage}
-use Rattle.exchange.specs.declared.Stage.the-variants.{Failed}
+use Rattle.exchange.specs.Steps.{withStage}
+use Rattle.exchange.specs.declared.Stage.the-variants.{SecretDone, Complete, Failed}
 use Rattle.exchange.specs.declared.Lengths.{Lengths}
 use Rattle.exchange.specs.declared.Exchange.{Exchange}
 
@@ -107,3 +108,8 @@ unfolding completed
 completed-known e c =
     let t = and-true (isComplete (e .stage) && roleOk (e .role)) (recordFits e) c in
     (and-true (isComplete (e .stage)) (roleOk (e .role)) (t .0) .0, recorded e (t .1))
+
+-- a complete record fits exactly as the last step found it: by the same method, lengths and K
+pub complete-as-last : (e : Exchange) → recordFits (withStage e Complete (e .lens)) ≡ recordFits (withStage e SecretDone (e .lens))
+unfolding recordFits lengthsFit cFits sFits kFits
+complete-as-last e = refl

@@ -374,6 +374,27 @@ unfolding hTold
 h-sim room b e room′ (live s x y) = ap (λ (z : Exchange). z .h) x
 h-sim room b e room′ (dead n x f y w v z) = rw f v
 
+-- K has its four length bytes, so that H is there
+h-some : (m : ℕ) (k input : List ℕ) → kLength (kRecord k) ≡ length k → hOnce m k input ≡ hOf m input
+h-some m [] input l = let w : ⊥ = omega (arith, l) in absurd w
+h-some m (y ∷ k) input l = refl
+
+h-complete : {b : Book} → Reachable b → isComplete (exchangeOf b .stage) ≡ true → hTold b ≡ hOf (b .method) (hashInput (b .fields))
+unfolding hTold
+h-complete (client0 a) z = absurd (false≢true z)
+h-complete (client1 a c) z = absurd (false≢true z)
+h-complete (client2 a c k s) z = absurd (false≢true z)
+h-complete (client3 a c k s y) z = absurd (false≢true z)
+h-complete (client4 a c k s y) z = h-some _ _ _ (y .len)
+h-complete (server0 a) z = absurd (false≢true z)
+h-complete (server1 a c) z = absurd (false≢true z)
+h-complete (server2 a c k s y) z = absurd (false≢true z)
+h-complete (server3 a c k s y) z = h-some _ _ _ (y .len)
+
+pub h-whole-sim : (room : List ℕ) (b : Book) (e : Exchange) (room′ : List ℕ) → Sim room b e room′ → isComplete (e .stage) ≡ true → e .h ≡ hOf (b .method) (hashInput (b .fields))
+h-whole-sim room b e room′ (live s x y) z = ap (λ (v : Exchange). v .h) x ∙ h-complete s (ap (λ (v : Exchange). isComplete (v .stage)) (sym x) ∙ z)
+h-whole-sim room b e room′ (dead n x f y w v u) z = absurd (false≢true (ap isComplete (sym y) ∙ z))
+
 -- ---- the start
 
 pub role-is : (role : ℕ) → roleOk role ≡ true → (role ≡ 1) ⊎ (role ≡ 2)
@@ -448,6 +469,7 @@ held role m vc vs ic is room z calls =
       fields-most = most-sim _ _ _ _ (t .2);
       k-is = k-sim _ _ _ _ (t .2);
       h-is = h-sim _ _ _ _ (t .2);
+      h-whole = h-whole-sim _ _ _ _ (t .2);
     }
 
 -- ---- for the crate demand

@@ -100,7 +100,8 @@ hashInput f =
 unfoldable pub roomTold : Book → List ℕ → List ℕ
 roomTold b room = cond (b .faulted) (zeros (length room)) (onto room (hashInput (b .fields)))
 
--- H that the book tells, 64 bytes: once K is among its fields, the method's hash of the hash input; zeros until then
+-- H that the book tells, 64 bytes: once K, which has four length bytes at least, is among its fields, the method's hash of the hash
+-- input; zeros until then
 abbrev pub hOnce : ℕ → List ℕ → List ℕ → List ℕ
 hOnce m [] input = zeros hSize
 hOnce m (b ∷ k) input = hOf m input

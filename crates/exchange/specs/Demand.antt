@@ -6,6 +6,7 @@ use mathlib.Core.Bool.{true}
 use lib.ListN.{length}
 use Rattle.limits.specs.Limits.{roomLeast}
 use Rattle.exchange.specs.Numbers.{isFault}
+use Rattle.exchange.specs.Causes.{hOf}
 use Rattle.exchange.specs.Record.{isComplete}
 use Rattle.exchange.specs.Steps.{Call, number, kRecord, exchangeAfter, roomAfter}
 use Rattle.exchange.specs.Book.{Book, causes, lastBook, hasAll, roomTold, hTold, hashInput}
@@ -55,5 +56,7 @@ pub record Held (b₀ : Book) (room : List ℕ) (calls : List Call) (numbers : L
   pub fields-most : length (hashInput (lastBook (length room) b₀ calls .fields)) ≤ roomLeast
   -- the K record is the book's K, zeros after it: all zeros until the secret step, and after a fault
   pub k-is : e .k ≡ kRecord (lastBook (length room) b₀ calls .fields .k)
-  -- H in the record is the book's: of a complete exchange the hash of the book's hash input; all zeros until the secret step, and after a fault
+  -- H in the record is the book's: all zeros until the secret step, and after a fault
   pub h-is : e .h ≡ hTold (lastBook (length room) b₀ calls)
+  -- on a complete exchange it is the hash of the book's hash input
+  pub h-whole : isComplete (e .stage) ≡ true → e .h ≡ hOf (lastBook (length room) b₀ calls .method) (hashInput (lastBook (length room) b₀ calls .fields))

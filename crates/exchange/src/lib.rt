@@ -11,7 +11,7 @@ pub enum Stage {
     InitRead,
     // Client: K_S and S came in.
     ReplyRead,
-    // K is known, and the hash input is whole.
+    // K and H are known, and the hash input is whole.
     SecretDone,
     // Every step of the role was accepted.
     Complete,

@@ -23,7 +23,7 @@ use Rattle.exchange.specs.declared.Stage.{Stage}
 use Rattle.exchange.specs.declared.Stage.the-variants.{Started, CSent, InitRead, ReplyRead, SecretDone, Complete, Failed}
 use Rattle.exchange.proofs.CauseFacts.{method-row}
 use Rattle.exchange.proofs.DueLaws.{completed-known}
-use Rattle.stored.specs.Stored.{fits, decoded, byFit, kTold, hKept}
+use Rattle.stored.specs.Stored.{fits, decoded, byFit, kKept, hKept}
 use Rattle.stored.proofs.StoredLaws.{method-read, size-taken, fits-known, fit-taken, fit-left}
 use Rattle.keys.specs.Derived.{deriveCause, recordedK, recordedH}
 
@@ -120,24 +120,24 @@ pub record Read (b : List ℕ) (kind size : ℕ) : Type 0 where
   pub kind-is : kind ≡ rowOf (decoded b .method) .«digest_len»
   pub kind-most : kind ≤ hSize
   pub h-length : length (hKept b) ≡ hSize
-  pub size-most : size ≤ length (kTold b)
-  pub k-length : length (kTold b) ≡ kSize
-  pub k-is : take size (kTold b) ≡ recordedK (decoded b)
+  pub size-most : size ≤ length (kKept b)
+  pub k-length : length (kKept b) ≡ kSize
+  pub k-is : take size (kKept b) ≡ recordedK (decoded b)
   pub h-is : take kind (hKept b) ≡ recordedH (decoded b)
 
-pub read : (b : List ℕ) (m kind n : ℕ) → (fits b && completed (decoded b)) ≡ true → m ≡ getD b 4 0 → kind ≡ rowOf m .«digest_len» → n ≡ numberAt (kTold b) 0 → Read b kind (4 + n)
+pub read : (b : List ℕ) (m kind n : ℕ) → (fits b && completed (decoded b)) ≡ true → m ≡ getD b 4 0 → kind ≡ rowOf m .«digest_len» → n ≡ numberAt (kKept b) 0 → Read b kind (4 + n)
 unfolding decoded
 read b m kind n c p q e =
     let f = and-true (fits b) (completed (decoded b)) c in
     let l = fits-known b (f .0) .0 in
     let d = completed-known (decoded b) (f .1) in
     let r = method-row (decoded b .method) (d .1 .method-ok) in
-    let k : kTold b ≡ decoded b .k = sym (size-taken b [] (take kSize (drop 19 b)) l) in
+    let k : kKept b ≡ decoded b .k = sym (size-taken b [] (take kSize (drop 19 b)) l) in
     let h : hKept b ≡ decoded b .h = sym (size-taken b [] (drop 90 b) l) in
     let g : kind ≡ rowOf (decoded b .method) .«digest_len» = q ∙ ap (λ (y : ℕ). rowOf y .«digest_len») (method-read b m p) in
-    let kl : length (kTold b) ≡ kSize = ap length k ∙ omega (arith, length-take kSize (drop 19 b), length-drop 19 b) in
+    let kl : length (kKept b) ≡ kSize = ap length k ∙ omega (arith, length-take kSize (drop 19 b), length-drop 19 b) in
     let hl : length (hKept b) ≡ hSize = ap length h ∙ omega (arith, length-drop 90 b) in
-    let s : n ≡ number32 (decoded b .k) = e ∙ number-at (kTold b) 0 (omega (arith, kl)) ∙ ap number32 k in
+    let s : n ≡ number32 (decoded b .k) = e ∙ number-at (kKept b) 0 (omega (arith, kl)) ∙ ap number32 k in
     let u = recorded-most (rowOf (decoded b .method)) (decoded b .stage) (decoded b .k) (complete-k (decoded b .stage) (d .0)) (d .1 .key) in
     record {
       hash-known = ap known g ∙ r .digest-kind;

@@ -3,13 +3,19 @@
 use Prim.Native.Nat.{ℕ, _≤_}
 use mathlib.Core.Path.{_≡_, refl, sym, ap, _∙_}
 use mathlib.Core.List.{List}
-use mathlib.Core.Bool.{Bool, true, false}
+use mathlib.Core.Bool.{Bool, true, false, _&&_}
 use native.Mathlib.Omega.{arith}
 use lib.ListN.{length, take, drop}
-use lib.Seq.{take-at, drop-at}
+use lib.Seq.{take-at, drop-at, take-take}
+use lib.Dec.{ltb}
+use borrow.Author.Tests.{le-ltb}
+use Rattle.limits.specs.Limits.{keyMost, letterFirst, letterLast}
+use Rattle.limits.specs.Range.{within}
+use Rattle.limits.proofs.BoolLaws.{and-true}
+use Rattle.limits.proofs.RangeLaws.{within-is, within-most}
 use Rattle.buffers.specs.Bytes.{onto}
 use Rattle.sha_words.specs.Constants.{known}
-use Rattle.wire.proofs.CauseLaws.{unless-none, unless-holds, unless-fails}
+use Rattle.wire.proofs.CauseLaws.{if-fails, unless-none, unless-holds, unless-fails}
 use Rattle.methods.specs.Rows.{rowOf}
 use Rattle.exchange.specs.Record.{kLength, isComplete, completed}
 use Rattle.exchange.specs.Steps.{outputAfter}
@@ -68,10 +74,22 @@ module _ (e : Exchange) (letter : ℕ) where
 
   -- fewer bytes are a beginning of what more give: of what was written for m bytes the first n are what is written for n
   pub output-beginning : (n m : ℕ) (out out′ : List ℕ) → n ≤ m → deriveCause e letter n (length out) ≡ 0 → deriveCause e letter m (length out′) ≡ 0
-      → take n (take m (outputAfter (deriveCause e letter m (length out′)) out′ (keyIn e letter m)))
+      → take n (outputAfter (deriveCause e letter m (length out′)) out′ (keyIn e letter m))
       ≡ take n (outputAfter (deriveCause e letter n (length out)) out (keyIn e letter n))
   output-beginning n m out out′ h y z =
-      ap (take n) (output-key m out′ z) ∙ keyIn-beginning e (accepted n (length out) y) letter n m h ∙ sym (output-key n out y)
+      sym (take-take n m _ h) ∙ ap (take n) (output-key m out′ z) ∙ keyIn-beginning e (accepted n (length out) y) letter n m h ∙ sym (output-key n out y)
+
+  -- and where more are given, fewer are, to an output that has room for them
+  pub fewer-accepted : (n m out out′ : ℕ) → 1 ≤ n → n ≤ m → n ≤ out → deriveCause e letter m out′ ≡ 0 → deriveCause e letter n out ≡ 0
+  unfolding deriveCause
+  fewer-accepted n m out out′ l h k z =
+      let c = unless-none (completed e) 1 _ (omega arith) z in
+      let a = unless-none (within letterFirst letterLast letter && within 1 keyMost m) 4 _ (omega arith) (c .1) in
+      let b = and-true (within letterFirst letterLast letter) (within 1 keyMost m) (a .0) in
+      let w = within-is 1 keyMost n l (omega (arith, within-most 1 keyMost m (b .1))) in
+      unless-holds (completed e) 1 _ (c .0)
+      ∙ unless-holds (within letterFirst letterLast letter && within 1 keyMost n) 4 _ (λ i. b .0 i && w i)
+      ∙ if-fails (ltb out n) 5 0 (le-ltb out n k)
 
 -- ---- by the book
 

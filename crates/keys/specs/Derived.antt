@@ -27,7 +27,7 @@ recordedK e = take (kLength (e .k)) (e .k)
 abbrev pub recordedH : Exchange → List ℕ
 recordedH e = take (rowOf (e .method) .«digest_len») (e .h)
 
--- the session identifier: H
+-- the session identifier: until rekeying comes, H
 abbrev pub identifier : Exchange → List ℕ
 identifier e = recordedH e
 

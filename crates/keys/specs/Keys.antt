@@ -5,7 +5,7 @@ use mathlib.Core.List.{List, [], _∷_, _++_}
 use lib.ListN.{take}
 use Rattle.sha_words.specs.Message.{sha2}
 
--- K1 = HASH(K || H || X || session_id), X one byte: the letter
+-- K1 = HASH(K || H || X || session_id), where the RFC's X is the letter, one byte
 unfoldable pub keyFirst : ℕ → List ℕ → List ℕ → ℕ → List ℕ → List ℕ
 keyFirst kind k h letter id = sha2 kind (k ++ h ++ (letter ∷ []) ++ id)
 
@@ -18,6 +18,6 @@ abbrev pub keyBlocks : ℕ → List ℕ → List ℕ → ℕ → List ℕ → �
 keyBlocks kind k h letter id zero = keyFirst kind k h letter id
 keyBlocks kind k h letter id (suc n) = keyBlocks kind k h letter id n ++ keyNext kind k h (keyBlocks kind k h letter id n)
 
--- the key: lengthened until there is enough, and of that the beginning
+-- the key: lengthened as few times as give so many bytes (KeyLaws: key-enough, key-least), and of that the beginning
 unfoldable pub keyOf : ℕ → List ℕ → List ℕ → ℕ → List ℕ → ℕ → List ℕ
 keyOf kind k h letter id len = take len (keyBlocks kind k h letter id ((len - 1) / kind))

@@ -66,9 +66,9 @@ fn write_key(kind: usize, k: &[u8], h: &[u8], letter: u8, id: &[u8], out: &mut [
 {
     let mut kh = [0u8; limits::K_SIZE + limits::H_SIZE];
     put_both(&mut kh, k, h);
-    let x = [letter];
+    let one = [letter];
     let mut rest = [0u8; 1 + limits::H_SIZE];
-    put_both(&mut rest, &x, id);
+    put_both(&mut rest, &one, id);
     let kh_len = k.len() + h.len();
     let rest_len = 1 + id.len();
     lay_key(kind, &kh[0..kh_len], &rest[0..rest_len], out);

@@ -20,7 +20,7 @@ use Rattle.exchange.specs.declared.Exchange.{Exchange}
 use Rattle.exchange.specs.declared.Step.{Step}
 use Rattle.exchange.proofs.KindLaws.{kind-same, kind-fault, kind-other, kind-accepted}
 use Rattle.exchange.proofs.StepLaws.{step-known, handed-refused}
-use Rattle.stored.specs.Stored.{stageNumber, failNumber, encoded, fits, lengthsIn, LengthBytes, decoded, byFit, bySize, lengthsTold, kTold}
+use Rattle.stored.specs.Stored.{stageNumber, failNumber, encoded, fits, lengthsIn, LengthBytes, decoded, byFit, bySize, lengthsTold, kKept}
 use Rattle.changes.specs.Changes.{put16, putHead}
 use Rattle.stored.proofs.StoredLaws.{role-read, method-read, size-taken, size-left, fits-known, fit-taken}
 use Rattle.stored.proofs.RoundTrip.{stored-again}
@@ -152,7 +152,7 @@ pub record Opened (b room : List ℕ) (q : Call) : Type 0 where
   pub k-size : length (decoded b .k) ≡ kSize
   pub h-size : length (decoded b .h) ≡ hSize
   pub lens-are : lengthsTold b ≡ decoded b .lens
-  pub k-is : kTold b ≡ decoded b .k
+  pub k-is : kKept b ≡ decoded b .k
 
 pub opened : (b room : List ℕ) (q : Call) (n : ℕ) → n ≡ byFit b (number (decoded b) room q) 1 → (n ≡ 0 → LengthBytes b) → n ≡ 0 → Opened b room q
 unfolding decoded

@@ -9,7 +9,7 @@ ghost use Rattle.buffers.specs.Bytes.{zeros, laid};
 ghost use Rattle.wire.specs.Strings.{numberAt};
 ghost use Rattle.transcript.specs.Fields.{field, fieldSize, around};
 ghost use Rattle.exchange.specs.Steps.{headSize, fieldsSize, refusedRoom};
-ghost use Rattle.stored.specs.Stored.{bySize, lengthsTold, kTold};
+ghost use Rattle.stored.specs.Stored.{bySize, lengthsTold, kKept};
 ghost use Rattle.changes.specs.Changes.{put16, putHead};
 ghost use Rattle.lent.specs.Lent.{refusedBytes};
 
@@ -95,7 +95,7 @@ pub fn with_s(ex: &mut [u8], room: &mut [u8], stage: u8, ks: &[u8], s: &[u8])
 
 // The last step: K goes to its output, and the exchange is complete. Returns K's length.
 pub fn finish(ex: &mut [u8], k_out: &mut [u8]) -> usize
-    ensures { λ r. ⌜ (r ≡ 4 + numberAt (kTold (now (ex .entry))) 0) × (now (ex .exit) ≡ bySize (now (ex .entry)) (set (now (ex .entry)) 1 5) (now (ex .entry))) × (now («k_out» .exit) ≡ laid (now («k_out» .entry)) 0 (kTold (now (ex .entry)))) ⌝ }
+    ensures { λ r. ⌜ (r ≡ 4 + numberAt (kKept (now (ex .entry))) 0) × (now (ex .exit) ≡ bySize (now (ex .entry)) (set (now (ex .entry)) 1 5) (now (ex .entry))) × (now («k_out» .exit) ≡ laid (now («k_out» .entry)) 0 (kKept (now (ex .entry)))) ⌝ }
 {
     let k = stored::k_in(ex);
     buffers::put_bytes(k_out, 0, k);

@@ -80,7 +80,7 @@ key-part : (k : List ℕ) (len : ℕ) (bytes src : List ℕ) → length k ≤ kS
     → src ≡ bytesAt bytes (inside (length bytes) (part 0 len)) → src ≡ k
 key-part k len bytes src h l b f = f ∙ (λ i. bytesAt (b i) (inside (length (b i)) (part 0 (l i)))) ∙ record-part k h
 
--- what `key_of` gave
+-- what `k_by_method` gave
 pub key-kept : (k : List ℕ) (g : Secret) → length k ≤ kSize → g ≡ kept k → (g .len ≡ length k) × (g .bytes ≡ kRecord k)
 key-kept k g h f =
     let e = f ∙ sym (kept-fits k h) in

@@ -87,7 +87,7 @@ fn join_own(ex: &mut [u8], room: &mut [u8], role: u8, ks: &[u8], s: &[u8])
 }
 
 // K in the method's form. Only a hybrid's is by the hash, of K_PQ and then X: where K is a number, what stands in the digest's place is not read.
-fn key_of(method: u8, x: &[u8], k_pq: &[u8]) -> Secret
+fn k_by_method(method: u8, x: &[u8], k_pq: &[u8]) -> Secret
     requires { ⌜ (methodOk method ≡ true) × (length (now «k_pq») + length (now x) ≤ hashMost) ⌝ }
     ensures { λ r. ⌜ r ≡ kept (kOf method (now (x .entry)) (now («k_pq» .entry))) ⌝ }
 {
@@ -102,7 +102,7 @@ fn key_of(method: u8, x: &[u8], k_pq: &[u8]) -> Secret
 }
 
 // K joins the room behind the other fields, and the exchange. Answers where K begins.
-fn join_key(ex: &mut [u8], room: &mut [u8], key: Secret) -> usize
+fn join_k(ex: &mut [u8], room: &mut [u8], key: Secret) -> usize
     ensures { λ end.
         let b = now (ex .entry) in
         ⌜ (end ≡ fieldsSize (lengthsTold b)) × (now (room .exit) ≡ laid (now (room .entry)) end (bytesAt (key .bytes) (inside (length (key .bytes)) (part 0 (key .len))))) × (now (ex .exit) ≡ bySize b (laid (set b 1 4) 19 (key .bytes)) b) ⌝ }
@@ -171,10 +171,10 @@ pub fn take_secret(
     if n != 0 {
         return lent::refuse(n, ex, room);
     }
-    let key = key_of(method, x, k_pq);
+    let key = k_by_method(method, x, k_pq);
     let len = key.len;
     join_own(ex, room, role, ks, s);
-    let end = join_key(ex, room, key);
+    let end = join_k(ex, room, key);
     join_hash(ex, room, method, end + len, count, h);
     0
 }

@@ -15,7 +15,7 @@ use Rattle.exchange.specs.declared.Stage.{Stage}
 use Rattle.exchange.specs.declared.Lengths.{Lengths}
 use Rattle.exchange.specs.declared.Exchange.{Exchange}
 use Rattle.exchange.specs.declared.Stage.the-variants.{Started, Failed}
-use Rattle.stored.specs.Stored.{stageOf, marksFit, fits, lengthsIn, decoded, blank, byFit, bySize, lengthsTold, kTold, hKept}
+use Rattle.stored.specs.Stored.{stageOf, marksFit, fits, lengthsIn, decoded, blank, byFit, bySize, lengthsTold, kKept, hKept}
 
 -- ---- stage and marks
 
@@ -103,7 +103,7 @@ marks-fits b h = rw (eq-eqb (length b) exchangeSize h)
 
 -- ---- load
 
-module _ (b k h : List ℕ) (l : Lengths) (e : l ≡ lengthsTold b) (d : k ≡ laid (zeros kSize) 0 (kTold b)) (f : h ≡ laid (zeros hSize) 0 (hKept b)) where
+module _ (b k h : List ℕ) (l : Lengths) (e : l ≡ lengthsTold b) (d : k ≡ laid (zeros kSize) 0 (kKept b)) (f : h ≡ laid (zeros hSize) 0 (hKept b)) where
   pub loaded-blank : ¬ (length b ≡ exchangeSize) → _≡_ {A = Exchange} (record { stage = Started; role = 0; method = 0; lens = l; k = k; h = h }) (bySize b (decoded b) blank)
   loaded-blank n =
       let m = d ∙ ap (laid (zeros kSize) 0) (sym (size-left b [] (take kSize (drop 19 b)) n)) ∙ laid-nil (zeros kSize) 0 in

@@ -126,8 +126,8 @@ bySize b new old = cond (eqb (length b) exchangeSize) new old
 abbrev pub lengthsTold : List ℕ → Lengths
 lengthsTold b = bySize b (lengthsIn b) noLengths
 
-abbrev pub kTold : List ℕ → List ℕ
-kTold b = bySize b (take kSize (drop 19 b)) []
+abbrev pub kKept : List ℕ → List ℕ
+kKept b = bySize b (take kSize (drop 19 b)) []
 
 abbrev pub hKept : List ℕ → List ℕ
 hKept b = bySize b (drop 90 b) []

@@ -7,7 +7,7 @@ ghost use mathlib.Core.Path.{_≡_};
 ghost use Prim.Native.Nat.{_+_, _*_, _≤_, _<_};
 ghost use lib.ListN.{length, getD};
 ghost use Rattle.limits.specs.Limits.{exchangeSize};
-ghost use Rattle.stored.specs.Stored.{stageNumber, failNumber, stageOf, marksFit, fits as fitting, number16, Halves, LengthBytes, decoded, blank, bySize, lengthsTold, kTold, hKept, encoded};
+ghost use Rattle.stored.specs.Stored.{stageNumber, failNumber, stageOf, marksFit, fits as fitting, number16, Halves, LengthBytes, decoded, blank, bySize, lengthsTold, kKept, hKept, encoded};
 
 // Where the single bytes stand.
 pub const MARK_AT: usize = 0;
@@ -175,7 +175,7 @@ pub fn lengths_in(b: &[u8]) -> Lengths
 
 // K's record among the bytes; empty in bytes of another size.
 pub fn k_in(b: &[u8]) -> &[u8]
-    ensures { λ r. ⌜ now r ≡ kTold (now (b .entry)) ⌝ }
+    ensures { λ r. ⌜ now r ≡ kKept (now (b .entry)) ⌝ }
 {
     if b.len() != limits::EXCHANGE_SIZE {
         return &b[0..0];

@@ -267,7 +267,7 @@ pub struct Reply<'a> {
 }
 
 /// The shared secret as it is hashed, and as keys are derived from it: a complete exchange does that by itself, without it. It is lent to the last
-/// step, which writes it where it stands, so that no copy is left behind; and it wipes itself when it is dropped.
+/// step, which writes it where it stands, and wipes itself when it is dropped. A move of it leaves its bytes where it stood: hand it over where it is to stay.
 ///
 /// ```compile_fail,E0599
 /// let k = castulfrisa::K::new();

@@ -28,8 +28,8 @@ impl Letter {
     }
 }
 
-/// A key. It is lent to `derive`, which writes it where it stands, so that no copy is left behind; and it wipes itself when it is
-/// dropped.
+/// A key. It is lent to `derive`, which writes it where it stands, and wipes itself when it is dropped. A move of a key that was derived leaves
+/// its bytes where it stood: derive it where it is to stay, or box it.
 ///
 /// ```compile_fail,E0599
 /// let key = castulfrisa::Key::new();

@@ -36,19 +36,19 @@ method-is : (j : tie.Else1) → j .before .before .before .before .byte-in2 .res
 method-is j = method-read (now (j .before .before .before .before .before .before .before .before .before .before .before .before .before .before .before .args .ex)) _ (j .before .before .before .before .byte-in2 .ensures)
 
 -- and K: its length and its record
-key : (c : tie.After-key-of) →
+key : (c : tie.After-k-by-method) →
     let a = c .before .before .before .before .before .before .before .before .before .before .before .before .before .before .before .before .args in
     let k = kOf (decoded (now (a .ex)) .method) (now (a .x)) (now (a .k-pq)) in
-    (c .key-of .result .len ≡ length k) × (c .key-of .result .bytes ≡ kRecord k)
+    (c .k-by-method .result .len ≡ length k) × (c .k-by-method .result .bytes ≡ kRecord k)
 key c =
     let a = c .before .before .before .before .before .before .before .before .before .before .before .before .before .before .before .before .args in
-    key-kept _ (c .key-of .result) (fit (c .before) .k-fits) (c .key-of .ensures ∙ ap (λ (m : ℕ). kept (kOf m (now (a .x)) (now (a .k-pq)))) (method-is (c .before)))
+    key-kept _ (c .k-by-method .result) (fit (c .before) .k-fits) (c .k-by-method .ensures ∙ ap (λ (m : ℕ). kept (kOf m (now (a .x)) (now (a .k-pq)))) (method-is (c .before)))
 
 -- so all is as the step has it, and the count is small
 done : (c : tie.After-join-hash-arg) →
     let a = c .before .before .before .before .before .before .before .before .before .before .before .before .before .before .before .before .before .before .before .before .before .before .before .before .before .before .before .before .before .before .before .args in
-    let n = c .before .before .before .before .before .join-key .result + c .before .before .before .before .before .before .before .before .before .before .before .before .before .before .before .key-of .result .len in
-    Done (now (a .ex)) (now (a .room)) (a .cl) (now (a .x)) (a .kem) (now (a .k-pq)) (now (a .ks)) (now (a .s)) (accepts (c .before .before .before .before .before .before .before .before .before .before .before .before .before .before .before .before)) n (c .before .before .before .before .before .join-key .last .1 .0) (c .before .before .before .before .before .join-key .last .0) × (n ≤ roomLeast)
+    let n = c .before .before .before .before .before .join-k .result + c .before .before .before .before .before .before .before .before .before .before .before .before .before .before .before .k-by-method .result .len in
+    Done (now (a .ex)) (now (a .room)) (a .cl) (now (a .x)) (a .kem) (now (a .k-pq)) (now (a .ks)) (now (a .s)) (accepts (c .before .before .before .before .before .before .before .before .before .before .before .before .before .before .before .before)) n (c .before .before .before .before .before .join-k .last .1 .0) (c .before .before .before .before .before .join-k .last .0) × (n ≤ roomLeast)
 done c =
     let a = c .before .before .before .before .before .before .before .before .before .before .before .before .before .before .before .before .before .before .before .before .before .before .before .before .before .before .before .before .before .before .before .args in
     let k = key (c .before .before .before .before .before .before .before .before .before .before .before .before .before .before .before) in
@@ -56,16 +56,16 @@ done c =
       role-is = c .before .before .before .before .before .before .before .before .before .before .before .before .before .before .before .before .before .before .before .before .before .before .byte-in .ensures;
       own = c .before .before .before .before .before .before .before .before .before .before .before .before .join-own .ensures .0;
       own-room = c .before .before .before .before .before .before .before .before .before .before .before .before .join-own .ensures .1;
-      end-is = c .before .before .before .before .before .join-key .ensures .0;
+      end-is = c .before .before .before .before .before .join-k .ensures .0;
       len-is = k .0;
       bytes-are = k .1;
       src-is = refl;
-      left-is = c .before .before .before .before .before .join-key .ensures .1;
-      ex-is = c .before .before .before .before .before .join-key .ensures .2;
+      left-is = c .before .before .before .before .before .join-k .ensures .1;
+      ex-is = c .before .before .before .before .before .join-k .ensures .2;
     })
 
 -- in a room as long as it was
-same-room : (c : tie.After-join-hash-arg) → length (c .before .before .before .before .before .join-key .last .1 .0) ≡ length (now (c .before .before .before .before .before .before .before .before .before .before .before .before .before .before .before .before .before .before .before .before .before .before .before .before .before .before .before .before .before .before .before .args .room))
+same-room : (c : tie.After-join-hash-arg) → length (c .before .before .before .before .before .join-k .last .1 .0) ≡ length (now (c .before .before .before .before .before .before .before .before .before .before .before .before .before .before .before .before .before .before .before .before .before .before .before .before .before .before .before .before .before .before .before .args .room))
 same-room c = search needs
 
 byte-in-requires : tie.Need-byte-in-requires
@@ -99,14 +99,14 @@ returns c =
     let m = number-lent b r q [] _ _ _ _ (c .before .before .before .before .before .before .before .before .step-number .ensures .0) (c .before .before .before .before .before .before .before .before .before .before .before .before .before .byte-in .ensures) (c .before .before .before .before .before .before .before .before .before .before .before .byte-in2 .ensures) (c .before .before .before .before .before .before .before .before .before .before .secret-cause .ensures) in
     call-refused b r q ([]) _ m (c .before .before .before .before .before .before .before .if1 .taken) _ _ _ (c .before .before .before .before .refuse .ensures .0) (c .before .before .before .before .refuse .ensures .1) (c .before .before .before .before .refuse .ensures .2)
 
-key-of-requires : tie.Need-key-of-requires
-key-of-requires c κs = (ap methodOk (method-is c) ∙ fit c .method-ok, fit c .hash-fits)
+k-by-method-requires : tie.Need-k-by-method-requires
+k-by-method-requires c κs = (ap methodOk (method-is c) ∙ fit c .method-ok, fit c .hash-fits)
 
 join-own-requires : tie.Need-join-own-requires
 join-own-requires c κs = search needs
 
-join-key-requires : tie.Need-join-key-requires
-join-key-requires c κs = search needs
+join-k-requires : tie.Need-join-k-requires
+join-k-requires c κs = search needs
 
 add-join-hash : tie.Need-add-join-hash
 add-join-hash c = let w = done (c .before) .1 in record { fits = omega arith }
@@ -130,9 +130,9 @@ returns-2 c =
     let a = t .before .before .before .before .before .before .before .before .before .before .before .before .before .before .before .before .before .before .before .before .before .before .before .before .before .before .before .before .before .before .before .args in
     let o = accepts (t .before .before .before .before .before .before .before .before .before .before .before .before .before .before .before .before) in
     let d = done t .0 in
-    let n = t .before .before .before .before .before .join-key .result + t .before .before .before .before .before .before .before .before .before .before .before .before .before .before .before .key-of .result .len in
-    let r = t .before .before .before .before .before .join-key .last .1 .0 in
-    let b = t .before .before .before .before .before .join-key .last .0 in
+    let n = t .before .before .before .before .before .join-k .result + t .before .before .before .before .before .before .before .before .before .before .before .before .before .before .before .k-by-method .result .len in
+    let r = t .before .before .before .before .before .join-k .last .1 .0 in
+    let b = t .before .before .before .before .before .join-k .last .0 in
     let h = c .before .before .join-hash .ensures .0 ∙ ap (λ (m : ℕ). n ∷ hOf m (take n r)) (method-is (t .before .before .before .before .before .before .before .before .before .before .before .before .before .before .before .before)) ∙ d .told in
     let x = d .ex-is _ (c .before .before .join-hash .ensures .1 ∙ ap (λ (m : ℕ). bySize b (laid b 90 (hOf m (take n r))) b) (method-is (t .before .before .before .before .before .before .before .before .before .before .before .before .before .before .before .before))) in
     call-accepted (now (a .ex)) (now (a .room)) (secret (a .cl) (now (a .x)) (a .kem) (now (a .k-pq)) (now (a .ks)) (now (a .s))) [] (o .fitting) (o .accepts) _ _ _ _ h x (d .room-is) refl
@@ -149,9 +149,9 @@ take-secret-spec =
     same-length
     same-length-2
     returns
-    key-of-requires
+    k-by-method-requires
     join-own-requires
-    join-key-requires
+    join-k-requires
     add-join-hash
     join-hash-requires
     same-length-3

@@ -1,11 +1,11 @@
--- `lent_steps::key_of` meets its contract. Assumes nothing.
+-- `lent_steps::k_by_method` meets its contract. Assumes nothing.
 use borrow.Author.Needs.{needs}
 use mathlib.Core.Path.{ap, _∙_}
 use denote.Ref.{now}
 use Rattle.secret.specs.Secret.{kept}
 use Rattle.lent_steps.proofs.SecretStepLaws.{key-number, key-digest}
-use Rattle.lent_steps.proofs.key_of.Statement.{statement}
-use Rattle.lent_steps.proofs.key_of.Tie as tie
+use Rattle.lent_steps.proofs.k_by_method.Statement.{statement}
+use Rattle.lent_steps.proofs.k_by_method.Tie as tie
 
 k-form-requires : tie.Need-k-form-requires
 k-form-requires c κs = search needs
@@ -46,8 +46,8 @@ returns-2 c =
     c .k-of2 .ensures
     ∙ ap kept (key-digest (a .method) _ (now (a .x)) (now (a .k-pq)) (c .before .before .before .before .before .before .before .before .k-form .ensures) (s .pre .0) (s .pre .1) _ _ _ (c .before .before .before .before .before .digest-len .ensures) (c .before .before .before .before .hash-of .ensures) (c .before .part-of .ensures .0))
 
-pub key-of-spec : {M : Type 1} → statement M
-key-of-spec =
+pub k-by-method-spec : {M : Type 1} → statement M
+k-by-method-spec =
     tie.close
     (tie.spec
     k-form-requires

@@ -1,11 +1,11 @@
--- `lent_steps::join_key` meets its contract. Assumes nothing.
+-- `lent_steps::join_k` meets its contract. Assumes nothing.
 use borrow.Author.Needs.{needs}
 use mathlib.Core.Path.{ap, _∙_}
 use denote.Ref.{now}
 use Rattle.buffers.specs.Bytes.{laid}
 use Rattle.exchange.specs.Steps.{fieldsSize}
-use Rattle.lent_steps.proofs.join_key.Statement.{statement}
-use Rattle.lent_steps.proofs.join_key.Tie as tie
+use Rattle.lent_steps.proofs.join_k.Statement.{statement}
+use Rattle.lent_steps.proofs.join_k.Tie as tie
 
 lengths-in-requires : tie.Need-lengths-in-requires
 lengths-in-requires c κs = search needs
@@ -42,8 +42,8 @@ returns c =
       c .before .before .put-k .ensures,
     )
 
-pub join-key-spec : {M : Type 1} → statement M
-join-key-spec =
+pub join-k-spec : {M : Type 1} → statement M
+join-k-spec =
     tie.close
     (tie.spec
     lengths-in-requires
