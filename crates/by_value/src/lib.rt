@@ -28,7 +28,7 @@ pub fn lay(b: &mut [u8], e: Exchange) -> bool
     if !fits_two(l) {
         return false;
     }
-    stored::store(b, e);
+    values::store(b, e);
     true
 }
 
@@ -59,7 +59,7 @@ pub fn step_number(n: u8, e: Exchange, room: usize, fed: u8) -> u8
 pub fn answer(number: u8, count: u64, second: u64, b: &[u8]) -> Step
     ensures { λ r. ⌜ r ≡ back number count second (now (b .entry)) ⌝ }
 {
-    let exchange = stored::load(b);
+    let exchange = values::load(b);
     Step {
         number,
         count: count as usize,

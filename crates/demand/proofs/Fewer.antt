@@ -1,5 +1,5 @@
 -- Fewer bytes are a beginning of what more give. Assumes nothing.
-use mathlib.Core.Path.{_≡_, sym, ap, _∙_}
+use mathlib.Core.Path.{sym, ap, _∙_}
 use lib.ListN.{length, take}
 use denote.Ref.{now}
 use Rattle.exchange.specs.Steps.{outputAfter}

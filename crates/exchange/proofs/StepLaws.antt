@@ -4,7 +4,7 @@ use mathlib.Core.Path.{_≡_, refl, sym, ap, _∙_}
 use mathlib.Core.List.{List}
 use mathlib.Core.Bool.{Bool, true, false, cond, _&&_}
 use native.Mathlib.Omega.{arith}
-use lib.ListN.{length, take}
+use lib.ListN.{length}
 use lib.Dec.{eqb, ltb}
 use borrow.Author.Tests.{eqb-true, ltb-false}
 use Rattle.limits.specs.Limits.{versionMost, kexinitMost, blobMost, hSize, roomLeast}
@@ -20,7 +20,7 @@ use Rattle.methods.proofs.FormLaws.{length-most}
 use Rattle.transcript.specs.Fields.{fieldLength, fieldSize}
 use Rattle.transcript.proofs.RoomLaws.{fieldLength-most}
 use Rattle.transcript.proofs.FieldLaws.{fieldSize-fits, sizeSum-fits}
-use Rattle.exchange.specs.Causes.{blobOk, initCause, replyCause, hOf}
+use Rattle.exchange.specs.Causes.{blobOk, initCause, replyCause}
 use Rattle.exchange.specs.Numbers.{kind, byKind}
 use Rattle.exchange.specs.Record.{ended, clientNext, serverNext, nextStep, hasC, hasS, cFits, sFits, due}
 use Rattle.exchange.specs.Steps.{Call, init, reply, stepNo, fedCause, stepNumber, number, headEnd, fieldsEnd, headSize, fieldsSize, filled, taken, countOf, secondOf, exchangeAfter, roomAfter, answered, handedH, outputAfter, refusedStep, refusedRoom}

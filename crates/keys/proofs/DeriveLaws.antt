@@ -5,9 +5,9 @@ use mathlib.Core.List.{List, []}
 use mathlib.Core.Bool.{Bool, true, false, cond, _&&_, false≢true}
 use native.Mathlib.Omega.{arith}
 use lib.ListN.{length, getD, take, drop, length-drop, length-take}
-use lib.Dec.{leb, eqb, ltb}
+use lib.Dec.{leb, ltb}
 use borrow.Author.Tests.{leb-true, eqb-true, ltb-false, lt-ltb, le-ltb}
-use Rattle.limits.specs.Limits.{kSize, hSize, keyMost, letterFirst, letterLast, exchangeSize}
+use Rattle.limits.specs.Limits.{kSize, hSize, keyMost, letterFirst, letterLast}
 use Rattle.limits.specs.Range.{within}
 use Rattle.limits.proofs.BoolLaws.{and-true, both}
 use Rattle.wire.specs.Strings.{number32, numberAt}
@@ -18,7 +18,7 @@ use Rattle.methods.specs.Rows.{rowOf, kMost}
 use Rattle.methods.specs.declared.KForm.{KForm}
 use Rattle.methods.specs.declared.KForm.the-variants.{Mpint, Digest}
 use Rattle.methods.specs.declared.Method.{Method}
-use Rattle.exchange.specs.Record.{hasK, kLength, kBodyFits, kFits, isComplete, completed}
+use Rattle.exchange.specs.Record.{hasK, kBodyFits, kFits, isComplete, completed}
 use Rattle.exchange.specs.declared.Stage.{Stage}
 use Rattle.exchange.specs.declared.Stage.the-variants.{Started, CSent, InitRead, ReplyRead, SecretDone, Complete, Failed}
 use Rattle.exchange.proofs.CauseFacts.{method-row}

@@ -17,7 +17,7 @@ use Rattle.buffers.specs.Bytes.{onto}
 use Rattle.sha_words.specs.Constants.{known}
 use Rattle.wire.proofs.CauseLaws.{if-fails, unless-none, unless-holds, unless-fails}
 use Rattle.methods.specs.Rows.{rowOf}
-use Rattle.exchange.specs.Record.{kLength, isComplete, completed}
+use Rattle.exchange.specs.Record.{isComplete, completed}
 use Rattle.exchange.specs.Steps.{outputAfter}
 use Rattle.exchange.specs.Book.{Book, hasAll}
 use Rattle.exchange.specs.declared.Exchange.{Exchange}

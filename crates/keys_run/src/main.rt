@@ -36,7 +36,7 @@ fn put_key(key: [u8; limits::KEY_MOST], n: u8) {
 
 // A key of a length, and its line; of a call that is refused the line has zeros.
 fn show_key(ex: &[u8], letter: u8, len: u8) {
-    let e = stored::load(ex);
+    let e = values::load(ex);
     let mut out = [0u8; limits::KEY_MOST];
     let _n = derive::derive(e, letter, len as usize, &mut out);
     put_key(out, len);

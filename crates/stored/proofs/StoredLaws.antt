@@ -1,21 +1,14 @@
 -- Bytes and the exchanges that they hold: a law for each `return`, and what goes by the bytes. Assumes nothing.
-use Prim.Native.Nat.{ℕ, _+_, _≤_, _<_}
-use mathlib.Core.Path.{_≡_, refl, sym, ap, _∙_}
-use mathlib.Core.List.{List, [], _++_}
+use Prim.Native.Nat.{ℕ, _≤_, _<_}
+use mathlib.Core.Path.{_≡_, refl}
+use mathlib.Core.List.{List}
 use mathlib.Core.Bool.{Bool, true, false, _&&_, false≢true}
-use native.Mathlib.Omega.{arith}
-use lib.ListN.{length, getD, take, drop, length-append, length-drop, length-take}
+use lib.ListN.{length, getD}
 use lib.Dec.{eqb}
 use borrow.Author.Tests.{eq-eqb, ne-eqb, eqb-true, le-leb, lt-leb}
-use Rattle.limits.specs.Limits.{kSize, hSize, exchangeSize, exchangeMark}
-use Rattle.buffers.specs.Bytes.{zeros, laid}
-use Rattle.buffers.proofs.ByteLaws.{laid-nil, laid-whole, laid-laid}
-use Rattle.exchange.specs.Record.{noLengths}
-use Rattle.exchange.specs.declared.Stage.{Stage}
-use Rattle.exchange.specs.declared.Lengths.{Lengths}
-use Rattle.exchange.specs.declared.Exchange.{Exchange}
-use Rattle.exchange.specs.declared.Stage.the-variants.{Started, Failed}
-use Rattle.stored.specs.Stored.{stageOf, marksFit, fits, lengthsIn, decoded, blank, byFit, bySize, lengthsTold, kKept, hKept}
+use Rattle.limits.specs.Limits.{exchangeSize, exchangeMark}
+use Rattle.exchange.specs.declared.Stage.the-variants.{Failed}
+use Rattle.stored.specs.Stored.{stageOf, marksFit, fits, decoded, byFit, bySize}
 
 -- ---- stage and marks
 
@@ -41,19 +34,6 @@ module _ (m s f : ℕ) (h : m ≡ exchangeMark) where
   pub stage-below : s ≤ 6 → ¬ (s ≡ 6) → eqb f 0 ≡ marksFit m s f
   unfolding marksFit
   stage-below g n = rw (h, le-leb s 6 g, ne-eqb s 6 n)
-
--- ---- laid over the whole
-
-pub laid-three : (l a b c : List ℕ) (n m : ℕ) → length a ≡ n → n + length b ≡ m → m + length c ≡ length l → laid (laid (laid l 0 a) n b) m c ≡ a ++ b ++ c
-laid-three l a b c n m e f h =
-    let k = length-append a b in
-    let z : 0 + length a ≡ n = omega arith in
-    let y : 0 + length (a ++ b) ≡ m = omega arith in
-    ap (λ (o : ℕ). laid (laid (laid l 0 a) o b) m c) (sym z)
-    ∙ ap (λ (t : List ℕ). laid t m c) (laid-laid l 0 a b (omega arith))
-    ∙ ap (λ (o : ℕ). laid (laid l 0 (a ++ b)) o c) (sym y)
-    ∙ laid-laid l 0 (a ++ b) c (omega (arith, length-append (a ++ b) c))
-    ∙ laid-whole l (a ++ b ++ c) (omega (arith, length-append (a ++ b) c))
 
 -- ---- by the size
 pub size-taken : {A : Type 0} (b : List ℕ) (old new : A) → length b ≡ exchangeSize → new ≡ bySize b new old
@@ -100,22 +80,3 @@ size-unfit b h = rw (ne-eqb (length b) exchangeSize h)
 pub marks-fits : (b : List ℕ) → length b ≡ exchangeSize → marksFit (getD b 0 0) (getD b 1 0) (getD b 2 0) ≡ fits b
 unfolding fits
 marks-fits b h = rw (eq-eqb (length b) exchangeSize h)
-
--- ---- load
-
-module _ (b k h : List ℕ) (l : Lengths) (e : l ≡ lengthsTold b) (d : k ≡ laid (zeros kSize) 0 (kKept b)) (f : h ≡ laid (zeros hSize) 0 (hKept b)) where
-  pub loaded-blank : ¬ (length b ≡ exchangeSize) → _≡_ {A = Exchange} (record { stage = Started; role = 0; method = 0; lens = l; k = k; h = h }) (bySize b (decoded b) blank)
-  loaded-blank n =
-      let m = d ∙ ap (laid (zeros kSize) 0) (sym (size-left b [] (take kSize (drop 19 b)) n)) ∙ laid-nil (zeros kSize) 0 in
-      let o = f ∙ ap (laid (zeros hSize) 0) (sym (size-left b [] (drop 90 b) n)) ∙ laid-nil (zeros hSize) 0 in
-      (λ i. record { stage = Started; role = 0; method = 0; lens = (e ∙ sym (size-left b noLengths (lengthsIn b) n)) i; k = m i; h = o i })
-      ∙ size-left b blank (decoded b) n
-
-  pub loaded-whole : (s : Stage) → length b ≡ exchangeSize → s ≡ decoded b .stage
-      → _≡_ {A = Exchange} (record { stage = s; role = getD b 3 0; method = getD b 4 0; lens = l; k = k; h = h }) (bySize b (decoded b) blank)
-  unfolding decoded
-  loaded-whole s n g =
-      let m = d ∙ ap (laid (zeros kSize) 0) (sym (size-taken b [] (take kSize (drop 19 b)) n)) ∙ laid-whole (zeros kSize) (take kSize (drop 19 b)) (omega (arith, length-take kSize (drop 19 b), length-drop 19 b)) in
-      let o = f ∙ ap (laid (zeros hSize) 0) (sym (size-taken b [] (drop 90 b) n)) ∙ laid-whole (zeros hSize) (drop 90 b) (omega (arith, length-drop 90 b)) in
-      (λ i. record { stage = g i; role = getD b 3 0; method = getD b 4 0; lens = (e ∙ sym (size-taken b noLengths (lengthsIn b) n)) i; k = m i; h = o i })
-      ∙ size-taken b blank (decoded b) n

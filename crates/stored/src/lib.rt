@@ -1,13 +1,12 @@
 // An exchange as the bytes that a host lends for it: the mark of the layout, stage, fail number, role and method a byte each, seven
 // lengths of two bytes, the highest first, K and H. What a step reads of them.
-use exchange::Exchange;
 use exchange::Lengths;
 use exchange::Stage;
 ghost use mathlib.Core.Path.{_≡_};
 ghost use Prim.Native.Nat.{_+_, _*_, _≤_, _<_};
 ghost use lib.ListN.{length, getD};
 ghost use Rattle.limits.specs.Limits.{exchangeSize};
-ghost use Rattle.stored.specs.Stored.{stageNumber, failNumber, stageOf, marksFit, fits as fitting, number16, Halves, LengthBytes, decoded, blank, bySize, lengthsTold, kKept, hKept, encoded};
+ghost use Rattle.stored.specs.Stored.{stageNumber, failNumber, stageOf, marksFit, fits as fitting, number16, Halves, LengthBytes, decoded, lengthsTold, kKept, hKept};
 
 // Where the single bytes stand.
 pub const MARK_AT: usize = 0;
@@ -191,71 +190,4 @@ pub fn h_in(b: &[u8]) -> &[u8]
         return &b[H_AT..];
     }
     &b[0..0]
-}
-
-// The exchange in as many bytes as one has, whatever their marks; a blank one in others.
-pub fn load(b: &[u8]) -> Exchange
-    ensures { λ r. ⌜ r ≡ bySize (now (b .entry)) (decoded (now (b .entry))) blank ⌝ }
-{
-    let mut k = [0u8; limits::K_SIZE];
-    buffers::put_bytes(&mut k, 0, k_in(b));
-    let mut h = [0u8; limits::H_SIZE];
-    buffers::put_bytes(&mut h, 0, h_in(b));
-    let lens = lengths_in(b);
-    if b.len() != limits::EXCHANGE_SIZE {
-        return Exchange {
-            stage: Stage::Started,
-            role: 0,
-            method: 0,
-            lens,
-            k,
-            h,
-        };
-    }
-    let stage = stage_in(b);
-    Exchange {
-        stage,
-        role: b[ROLE_AT],
-        method: b[METHOD_AT],
-        lens,
-        k,
-        h,
-    }
-}
-
-// Lays an exchange into lent bytes that are as many as one has; others stay.
-pub fn store(b: &mut [u8], x: Exchange)
-    ensures { λ _. ⌜ now (b .exit) ≡ bySize (now (b .entry)) (encoded x) (now (b .entry)) ⌝ }
-{
-    if b.len() != limits::EXCHANGE_SIZE {
-        return;
-    }
-    let stage = x.stage;
-    let l = x.lens;
-    let k = x.k;
-    let head = [
-        limits::EXCHANGE_MARK,
-        stage_number(stage),
-        fail_number(stage),
-        x.role,
-        x.method,
-        (l.vc / 256 % 256) as u8,
-        (l.vc % 256) as u8,
-        (l.vs / 256 % 256) as u8,
-        (l.vs % 256) as u8,
-        (l.ic / 256 % 256) as u8,
-        (l.ic % 256) as u8,
-        (l.is / 256 % 256) as u8,
-        (l.is % 256) as u8,
-        (l.ks / 256 % 256) as u8,
-        (l.ks % 256) as u8,
-        (l.c / 256 % 256) as u8,
-        (l.c % 256) as u8,
-        (l.s / 256 % 256) as u8,
-        (l.s % 256) as u8,
-    ];
-    buffers::put_bytes(b, 0, &head);
-    buffers::put_bytes(b, K_AT, &k);
-    let h = x.h;
-    buffers::put_bytes(b, H_AT, &h);
 }

@@ -1,8 +1,7 @@
 -- `client::read_reply` meets its contract. Assumes nothing.
 use borrow.Author.Needs.{needs}
-use mathlib.Core.Path.{_≡_, refl, _∙_}
+use mathlib.Core.Path.{refl, _∙_}
 use mathlib.Core.List.{[]}
-use lib.ListN.{length}
 use denote.Ref.{now}
 use Rattle.exchange.specs.Steps.{reply, countOf, secondOf}
 use Rattle.lent.specs.Lent.{tells}

@@ -1,7 +1,7 @@
 -- `due::is_complete` meets its contract. Assumes nothing.
 use borrow.Author.Needs.{needs}
-use mathlib.Core.Path.{_≡_, sym, ap, _∙_}
-use mathlib.Core.Bool.{true, false}
+use mathlib.Core.Path.{ap, _∙_}
+use mathlib.Core.Bool.{false}
 use denote.Ref.{now}
 use Rattle.limits.proofs.BoolLaws.{holds, fails}
 use Rattle.exchange.specs.Causes.{roleOk}

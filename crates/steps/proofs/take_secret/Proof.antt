@@ -1,9 +1,9 @@
 -- `steps::take_secret` meets its contract. Assumes nothing.
 use borrow.Author.Needs.{needs}
 use Prim.Native.Nat.{ℕ}
-use mathlib.Core.Path.{_≡_, refl, ap, _∙_}
+use mathlib.Core.Path.{refl, ap, _∙_}
 use mathlib.Core.List.{List, []}
-use lib.ListN.{length, getD, drop}
+use lib.ListN.{getD, drop}
 use denote.Ref.{now}
 use Rattle.exchange.specs.Steps.{secret, secretAnswered, countOf, secondOf}
 use Rattle.exchange.proofs.StepLaws.{handed-refused}

@@ -1,4 +1,4 @@
--- `stored::store` meets its contract. Assumes nothing.
+-- `values::store` meets its contract. Assumes nothing.
 use borrow.Author.Needs.{needs}
 use Prim.Native.Nat.{ℕ}
 use mathlib.Core.Path.{_≡_, refl, sym, ap, _∙_}
@@ -8,10 +8,11 @@ use lib.ListN.{length, drop}
 use denote.Ref.{now}
 use Rattle.limits.specs.Limits.{kSize, hSize, exchangeMark}
 use Rattle.buffers.specs.Bytes.{laid}
 use Rattle.stored.specs.Stored.{headOf, encoded}
-use Rattle.stored.proofs.StoredLaws.{laid-three, size-taken, size-left}
-use Rattle.stored.proofs.store.Statement.{statement}
-use Rattle.stored.proofs.store.Tie as tie
+use Rattle.stored.proofs.StoredLaws.{size-taken, size-left}
+use Rattle.values.proofs.LoadLaws.{laid-three}
+use Rattle.values.proofs.store.Statement.{statement}
+use Rattle.values.proofs.store.Tie as tie
 
 returns : tie.Need-returns
 returns c = size-left (now (c .before .before .args .b)) (now (c .before .before .args .b)) _ (c .if1 .taken)

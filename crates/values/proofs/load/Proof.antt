@@ -1,12 +1,12 @@
--- `stored::load` meets its contract. Assumes nothing.
+-- `values::load` meets its contract. Assumes nothing.
 use borrow.Author.Needs.{needs}
 use mathlib.Core.Path.{ap, _∙_}
 use denote.Ref.{now}
 use Rattle.limits.specs.Limits.{kSize, hSize}
 use Rattle.buffers.specs.Bytes.{zeros, laid}
-use Rattle.stored.proofs.StoredLaws.{loaded-blank, loaded-whole}
-use Rattle.stored.proofs.load.Statement.{statement}
-use Rattle.stored.proofs.load.Tie as tie
+use Rattle.values.proofs.LoadLaws.{loaded-blank, loaded-whole}
+use Rattle.values.proofs.load.Statement.{statement}
+use Rattle.values.proofs.load.Tie as tie
 
 slice-aggregate-put-bytes : tie.Need-slice-aggregate-put-bytes
 slice-aggregate-put-bytes c = search needs
