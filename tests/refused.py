@@ -6,7 +6,8 @@ usage: refused.py [CRATE ...]      (at the repository's top)
 An .edit file holds one wrong program, or several of one crate that are tried at once, since each trial proves the whole crate again. A program
 begins with its lines '# rules out: FUNCTION: what', may name itself by a line '# label: NAME' (else the file's name is its own), and goes on with
 its file:, old: and new: lines. rt asks only that a file be refused. This asks of each program in it that
-- where it changes functions, one of them is not proved, by itself and not for a callee, so that the refusal is the program's own;
+- where it changes functions, one of them is not proved, by itself and not for a callee, so that the refusal is the program's own: a callee that is
+  not proved takes away what rests on it, which the checker says, and a fact of the function's own that fails stands beside that;
 - no other program of the file changes the same function;
 - the first error there is a fact that no longer holds, and not a proof that no longer fits the code's shape;
 - the changed contracts and definitions themselves make sense;
@@ -19,6 +20,8 @@ import sys
 
 # what the checker says of a proof that names places the code no longer has
 SHAPE = re.compile(r"has no `(Need|InvT|MeasureT)|has no field|that can be named from here|is not in scope|Scope:")
+# and of what rests on something that failed
+RESTS = "was not admitted"
 FUNCTION = re.compile(r'^( *)(?:pub )?(?:extern "C" )?fn (\w+)', re.M)
 
 
@@ -76,11 +79,16 @@ def judge(crate, path, source, log):
         name, functions = f"{crate}/{p['label']}", p["functions"]
         if any(q is not p and q["functions"] & functions for q in found) or (len(found) > 1 and not functions):
             yield f"{name}: tried with others, it changes no function or one that another changes too"
-        # of a function that only calls one that is not proved, the line goes on and says so
+        # of a function that calls one that is not proved, the line goes on and says so; a fact of its own may fail all the same
         own = [f for f in functions if any(re.match(rf"fn {crate}::(\w+::)*{f}: (not proved|no proof)(?!.*; it calls)", line) for line in lines)]
+        beside = not own
+        if beside:
+            own = [f for f in functions if first_error(lines, lambda line: f"/proofs/{f}/" in line and RESTS not in line)]
         if functions and not own:
             yield f"{name}: {' and '.join(sorted(functions))} is not refused by itself"
-        error = first_error(lines, lambda line: not own or any(f"/proofs/{f}/" in line for f in own))
+        error = first_error(
+            lines, lambda line: not own or any(f"/proofs/{f}/" in line for f in own) and not (beside and RESTS in line)
+        )
         if SHAPE.search(error):
             yield f"{name}: refused by its shape alone: {error[-160:]}"
 
