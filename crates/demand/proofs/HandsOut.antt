@@ -8,13 +8,14 @@ use Rattle.limits.specs.Limits.{roomLeast}
 use Rattle.buffers.specs.Bytes.{onto}
 use Rattle.exchange.specs.Causes.{startCause, hOf}
 use Rattle.exchange.specs.Steps.{Call, secret, sign, verdict, number, countOf, secondOf, answered, secretAnswered, replyOf, outputAfter, started, startedRoom}
+use Rattle.exchange.specs.Again.{Turn}
 use Rattle.exchange.specs.Book.{Book, opened, noted, lastBook, hashInput}
 use Rattle.exchange.specs.declared.Step.{Step}
 use Rattle.exchange.specs.declared.SecretStep.{SecretStep}
 use Rattle.exchange.specs.declared.Exchange.{Exchange}
 use Rattle.exchange.proofs.StepLaws.{step-accepted, output-accepted}
 use Rattle.exchange.proofs.Simulation.{Sim, followed}
-use Rattle.exchange.proofs.HandedLaws.{secret-handed, secret-hashed, book-method, sign-handed, verdict-handed}
+use Rattle.exchange.proofs.HandedLaws.{secret-handed, secret-hashed, sign-handed, verdict-handed}
 use Rattle.keys.specs.KeysTold.{keyTold}
 use Rattle.keys.proofs.OutputLaws.{derived-told}
 use Rattle.demand.specs.Told.{Told}
@@ -22,7 +23,7 @@ use Rattle.demand.specs.HandedOut.{SecretHandsOut, SignHandsOut, Verdict
 use Rattle.demand.proofs.Holds.{AsDefined, runs}
 
 -- exchange and room follow the book
-pub followed-there : (role m : ℕ) (vc vs ic is room₀ : List ℕ) (b₀ : Book) (calls : List Call) (numbers : List ℕ) (e : Exchange) (room : List ℕ)
+pub followed-there : (role m : ℕ) (vc vs ic is room₀ : List ℕ) (b₀ : Book) (calls : List Turn) (numbers : List ℕ) (e : Exchange) (room : List ℕ)
     → b₀ ≡ opened role m vc vs ic is → startCause role m vc vs ic is (length room₀) ≡ 0
     → AsDefined (started role m vc vs ic is (length room₀) .exchange) (startedRoom role m vc vs ic is room₀) calls numbers e room
     → (roomLeast ≤ length room₀) × Sim room₀ (lastBook (length room₀) b₀ calls) e room
@@ -30,7 +31,7 @@ followed-there role m vc vs ic is room₀ b₀ calls numbers e room b c s =
     let f = followed role m vc vs ic is room₀ c calls in
     (f .0, rw (b, s .exchange, s .rooms) (f .2))
 
-follows : {b₀ : Book} {room₀ : List ℕ} {calls : List Call} {numbers : List ℕ} {e : Exchange} {room : List ℕ} → Told b₀ room₀ calls numbers e room
+follows : {b₀ : Book} {room₀ : List ℕ} {calls : List Turn} {numbers : List ℕ} {e : Exchange} {room : List ℕ} → Told b₀ room₀ calls numbers e room
     → (roomLeast ≤ length room₀) × Sim room₀ (lastBook (length room₀) b₀ calls) e room
 follows {b₀} {room₀} {calls} {numbers} {e} {room} h =
     let k = runs h in
@@ -61,7 +62,7 @@ secret-hands-out b₀ room₀ calls numbers κs a r s d t z =
     let h = secret-handed room₀ b (a .0) (now (a .1 .0)) (f .0) (f .1) (a .1 .1 .0) (now (a .1 .1 .1 .0)) (a .1 .1 .1 .1 .0) (now (a .1 .1 .1 .1 .1 .0)) (now (a .1 .1 .1 .1 .1 .1 .0)) (now (a .1 .1 .1 .1 .1 .1 .1 .0)) n in (
       c ∙ h .0,
       (λ i. take (c i) (t .1 i)) ∙ h .1,
-      k ∙ ap (λ (m : ℕ). hOf m (hashInput (noted (length room₀) b q .fields))) (book-method (length room₀) b₀ calls),
+      k,
     )
 
 sign-hands-out : SignHandsOut

@@ -3,7 +3,8 @@ use Prim.Native.Nat.{ℕ}
 use mathlib.Core.Path.{_≡_}
 use mathlib.Core.List.{List}
 use mathlib.Core.Bool.{true}
-use Rattle.exchange.specs.Steps.{Call}
+use Rattle.methods.specs.Rows.{rowOf}
+use Rattle.exchange.specs.Again.{Turn}
 use Rattle.exchange.specs.Record.{isComplete}
 use Rattle.exchange.specs.Book.{Book}
 use Rattle.exchange.specs.declared.Exchange.{Exchange}
@@ -14,9 +15,24 @@ pub record Completed (role m : ℕ) (room : List ℕ) : Type 0 where
   pub book : Book
   pub role-is : book .role ≡ role
   pub method-is : book .method ≡ m
-  pub calls : List Call
+  pub calls : List Turn
   pub numbers : List ℕ
   pub exchange : Exchange
   pub room-left : List ℕ
   pub told : Told book room calls numbers exchange room-left
   pub complete : isComplete (exchange .stage) ≡ true
+
+-- with this role, and one exchange after another in these two methods: the session is the first one's
+pub record CompletedTwice (role m m′ : ℕ) (room : List ℕ) : Type 0 where
+  pub book : Book
+  pub role-is : book .role ≡ role
+  pub method-is : book .method ≡ m
+  pub calls : List Turn
+  pub numbers : List ℕ
+  pub exchange : Exchange
+  pub room-left : List ℕ
+  pub told : Told book room calls numbers exchange room-left
+  pub complete : isComplete (exchange .stage) ≡ true
+  pub method-left : exchange .method ≡ m′
+  pub count-is : exchange .session .count ≡ 2
+  pub length-is : exchange .session .len ≡ rowOf m .«digest_len»

@@ -11,7 +11,8 @@ use borrow.Fn.World.{ArgsD}
 use Rattle.buffers.specs.Bytes.{onto}
 use Rattle.messages.specs.Messages.{replyBytes, fieldOf}
 use Rattle.exchange.specs.Causes.{replyCause, hOf}
-use Rattle.exchange.specs.Steps.{Call, secret, kRecord, outputAfter}
+use Rattle.exchange.specs.Steps.{secret, kRecord, outputAfter}
+use Rattle.exchange.specs.Again.{Turn}
 use Rattle.exchange.specs.Book.{Book, noted, lastBook, hashInput}
 use Rattle.exchange.specs.declared.Step.{Step}
 use Rattle.exchange.specs.declared.SecretStep.{SecretStep}
@@ -26,16 +27,16 @@ use Rattle.derive.proofs.derive as derive-fn
 use Rattle.derive.proofs.derive.Reads as derive-reads
 use Rattle.demand.specs.Told.{Told}
 
--- an accepted secret step counts the hash input, the room begins with it, and the H that was handed out is its hash, by the method that was
--- started: what is signed or verified is a function of the book alone
+-- an accepted secret step counts the hash input, the room begins with it, and the H that was handed out is its hash, by the book's
+-- method: what is signed or verified is a function of the book alone
 abbrev pub SecretHandsOut : Type 0
 SecretHandsOut =
-    (b₀ : Book) (room₀ : List ℕ) (calls : List Call) (numbers : List ℕ)
+    (b₀ : Book) (room₀ : List ℕ) (calls : List Turn) (numbers : List ℕ)
     (κs : Lfts 5) (a : ArgsD take-secret-fn.signature κs) (r : SecretStep) (s : AtExit take-secret-fn.ended κs)
     → Told b₀ room₀ calls numbers (a .0) (now (a .1 .0)) → take-secret-reads.Learnt κs a r s → r .step .number ≡ 0
     → let q = secret (a .1 .1 .0) (now (a .1 .1 .1 .0)) (a .1 .1 .1 .1 .0) (now (a .1 .1 .1 .1 .1 .0)) (now (a .1 .1 .1 .1 .1 .1 .0)) (now (a .1 .1 .1 .1 .1 .1 .1 .0)) in
     let h = hashInput (noted (length room₀) (lastBook (length room₀) b₀ calls) q .fields) in
-    (r .step .count ≡ length h) × (take (r .step .count) (now (s .1 .0)) ≡ h) × (r .h ≡ hOf (b₀ .method) h)
+    (r .step .count ≡ length h) × (take (r .step .count) (now (s .1 .0)) ≡ h) × (r .h ≡ hOf (lastBook (length room₀) b₀ calls .method) h)
 
 -- an accepted signature writes REPLY of the book's K_S and S, which is read with 0 and gives the same fields back, and K's record; its
 -- counts are their lengths
@@ -51,7 +52,7 @@ pub record Signed (b : Book) (signature out kOut out′ kOut′ : List ℕ) (r :
 
 abbrev pub SignHandsOut : Type 0
 SignHandsOut =
-    (b₀ : Book) (room₀ : List ℕ) (calls : List Call) (numbers : List ℕ)
+    (b₀ : Book) (room₀ : List ℕ) (calls : List Turn) (numbers : List ℕ)
     (κs : Lfts 4) (a : ArgsD sign-fn.signature κs) (r : Step) (s : AtExit sign-fn.ended κs)
     → Told b₀ room₀ calls numbers (a .0) (now (a .1 .0)) → sign-reads.Learnt κs a r s → r .number ≡ 0
     → Signed (lastBook (length room₀) b₀ calls) (now (a .1 .1 .0)) (now (a .1 .1 .1 .0)) (now (a .1 .1 .1 .1 .0)) (now (s .1 .1 .1 .0)) (now (s .1 .1 .1 .1 .0)) r
@@ -59,7 +60,7 @@ SignHandsOut =
 -- an accepted verdict writes K's record, and counts K's length in it
 abbrev pub VerdictHandsOut : Type 0
 VerdictHandsOut =
-    (b₀ : Book) (room₀ : List ℕ) (calls : List Call) (numbers : List ℕ)
+    (b₀ : Book) (room₀ : List ℕ) (calls : List Turn) (numbers : List ℕ)
     (κs : Lfts 2) (a : ArgsD verdict-fn.signature κs) (r : Step) (s : AtExit verdict-fn.ended κs)
     → Told b₀ room₀ calls numbers (a .0) (now (a .1 .0)) → verdict-reads.Learnt κs a r s → r .number ≡ 0
     → let b = lastBook (length room₀) b₀ calls in
@@ -68,7 +69,7 @@ VerdictHandsOut =
 -- a call that derives, accepted or not, answers by the book and leaves the output as the book tells it: the six keys are a function of the book
 abbrev pub KeyHandsOut : Type 0
 KeyHandsOut =
-    (b₀ : Book) (room₀ : List ℕ) (calls : List Call) (numbers room : List ℕ)
+    (b₀ : Book) (room₀ : List ℕ) (calls : List Turn) (numbers room : List ℕ)
     (κs : Lfts 1) (a : ArgsD derive-fn.signature κs) (r : ℕ) (s : AtExit derive-fn.ended κs)
     → Told b₀ room₀ calls numbers (a .0) room → derive-reads.Learnt κs a r s
     → let b = lastBook (length room₀) b₀ calls in

@@ -8,13 +8,15 @@ use Rattle.limits.specs.Limits.{roomLeast}
 use Rattle.buffers.specs.Bytes.{onto}
 use Rattle.exchange.specs.Causes.{hOf}
 use Rattle.exchange.specs.Steps.{Call, secret, sign, verdict, number, countOf, secondOf, answered, replyOf, outputAfter, started, startedRoom}
+use Rattle.exchange.specs.Again.{Turn}
 use Rattle.exchange.specs.Book.{Book, opened, noted, lastBook, hashInput}
 use Rattle.exchange.specs.Demand.{lastExchange}
 use Rattle.exchange.specs.declared.Step.{Step}
 use Rattle.exchange.specs.declared.Exchange.{Exchange}
 use Rattle.exchange.proofs.StepLaws.{step-accepted, output-accepted}
 use Rattle.exchange.proofs.Simulation.{Sim}
-use Rattle.exchange.proofs.HandedLaws.{secret-handed, secret-hashed, book-method, sign-handed, verdict-handed}
+use Rattle.exchange.proofs.TheExchange.{told-exchange}
+use Rattle.exchange.proofs.HandedLaws.{secret-handed, secret-hashed, sign-handed, verdict-handed}
 use Rattle.arguments.specs.Arguments.{isYes, classicalOf, kemOf}
 use Rattle.stored.specs.Stored.{encoded, decoded, byFit}
 use Rattle.lent.specs.Lent.{tells, lentCall}
@@ -26,22 +28,18 @@ use Rattle.demand_host.specs.Told.{Told}
 use Rattle.demand_host.specs.HandedOut.{SecretHandsOut, SignHandsOut, VerdictHandsOut, KeyHandsOut, HandedOut}
 use Rattle.lent.proofs.Kept.{Storable, lent-is-step}
 use Rattle.lent.proofs.AsStep.{as-step}
-use Rattle.demand_host.proofs.Links.{found}
+use Rattle.demand_host.proofs.Links.{found, told-method}
 use Rattle.demand_host.proofs.Holds.{runs, as-defined}
 
 -- the bytes in the host's hands are those of an exchange that, with the room, follows the book
-record Follows (b₀ : Book) (room₀ : List ℕ) (calls : List Call) (ex room : List ℕ) : Type 0 where
+record Follows (b₀ : Book) (room₀ : List ℕ) (calls : List Turn) (ex room : List ℕ) : Type 0 where
   stored : ex ≡ encoded (decoded ex)
   storable : Storable (decoded ex)
   least : roomLeast ≤ length room₀
   sim : Sim room₀ (lastBook (length room₀) b₀ calls) (decoded ex) room
-  method-is : decoded ex .method ≡ b₀ .method
+  method-is : decoded ex .method ≡ lastBook (length room₀) b₀ calls .method
 
-opened-method : (role m : ℕ) (vc vs ic is : List ℕ) (b : Book) → b ≡ opened role m vc vs ic is → m ≡ b .method
-unfolding opened
-opened-method role m vc vs ic is b e = sym (ap (λ (y : Book). y .method) e)
-
-follows : {b₀ : Book} {room₀ : List ℕ} {calls : List Call} {numbers ex room : List ℕ} → Told b₀ room₀ calls numbers ex room → Follows b₀ room₀ calls ex room
+follows : {b₀ : Book} {room₀ : List ℕ} {calls : List Turn} {numbers ex room : List ℕ} → Told b₀ room₀ calls numbers ex room → Follows b₀ room₀ calls ex room
 follows {b₀} {room₀} {calls} {numbers} {ex} {room} h =
     let k = runs h in
     let s = k .run in
@@ -53,7 +51,10 @@ follows {b₀} {room₀} {calls} {numbers} {ex} {room} h =
       storable = subst Storable (sym d) (s .storable);
       least = f .0;
       sim = f .1;
-      method-is = ap (λ (y : Exchange). y .method) d ∙ s .method-is ∙ opened-method (k .role) (k .method) (k .vc) (k .vs) (k .ic) (k .is) b₀ (k .book);
+      method-is =
+          ap (λ (y : Exchange). y .method) (d ∙ told-exchange (k .role) (k .method) (k .vc) (k .vs) (k .ic) (k .is) room₀ (k .cause) calls)
+          ∙ told-method (lastBook (length room₀) (opened (k .role) (k .method) (k .vc) (k .vs) (k .ic) (k .is)) calls) _
+          ∙ ap (λ (y : Book). lastBook (length room₀) y calls .method) (sym (k .book));
     }
 
 -- an accepted call's counts
@@ -85,7 +86,7 @@ secret-hands-out b₀ room₀ calls numbers κs a r s d t z =
     let room = now (a .1 .0) in
     let cl = classicalOf (a .1 .1 .0) (a .1 .1 .1 .0) in
     let x = now (a .1 .1 .1 .1 .0) in
-    let kem = kemOf (b₀ .method) (a .1 .1 .1 .1 .1 .0) in
+    let kem = kemOf (b .method) (a .1 .1 .1 .1 .1 .0) in
     let kPq = now (a .1 .1 .1 .1 .1 .1 .0) in
     let ks = now (a .1 .1 .1 .1 .1 .1 .1 .0) in
     let v = now (a .1 .1 .1 .1 .1 .1 .1 .1 .0) in
@@ -98,7 +99,7 @@ secret-hands-out b₀ room₀ calls numbers κs a r s d t z =
     let k = ap (λ (y : List ℕ). drop 1 y) (l .told-is) ∙ secret-hashed room₀ b e room (f .least) (f .sim) cl x kem kPq ks v n in (
       c ∙ h .0,
       (λ i. take (c i) (l .room-is i)) ∙ h .1,
-      k ∙ ap (λ (m : ℕ). hOf m (hashInput (noted (length room₀) b q .fields))) (book-method (length room₀) b₀ calls),
+      k,
     )
 
 sign-hands-out : SignHandsOut

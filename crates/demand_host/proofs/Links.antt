@@ -11,12 +11,17 @@ use Rattle.exchange.specs.Causes.{startCause}
 use Rattle.exchange.specs.Record.{ended}
 use Rattle.exchange.specs.Numbers.{Kind, accepted, refused, fault, kind, byKind}
 use Rattle.exchange.specs.Steps.{Call, ownC, init, reply, secret, sign, verdict, number, taken, exchangeAfter, started, startedRoom}
+use Rattle.exchange.specs.Again.{againNumber, begunAgain, againAfter, againRoom}
+use Rattle.exchange.specs.Book.{Book, finished, sessionOf}
+use Rattle.exchange.specs.ExchangeTold.{exchangeOf, firstFault, exchangeTold}
 use Rattle.exchange.specs.declared.Exchange.{Exchange}
 use Rattle.stored.specs.Stored.{encoded, decoded, bySize}
 use Rattle.stored.proofs.StoredLaws.{size-taken}
 use Rattle.stored.proofs.RoundTrip.{decoded-encoded}
-use Rattle.lent.specs.Lent.{Left, left, untouched, startLeft, lentStart}
+use Rattle.lent.specs.Lent.{Left, left, untouched, startLeft, lentStart, lentAgain}
 use Rattle.lent.proofs.Kept.{Storable}
+use Rattle.lent.proofs.AsStep.{byAgain, as-again}
+use Rattle.demand_host.specs.History.{running}
 
 -- an accepted start made the exchange
 pub as-start : (b : List ℕ) (role m : ℕ) (vc vs ic is room : List ℕ) (n : ℕ) (ex room′ : List ℕ) → left n [] ex room′ [] ≡ lentStart b role m vc vs ic is room → n ≡ 0
@@ -46,7 +51,7 @@ start-called b role m vc vs ic is room h =
 
 -- and its bytes are found again
 pub found : (x : Exchange) → Storable x → decoded (encoded x) ≡ x
-found x h = decoded-encoded x (h .short) (h .k-size)
+found x h = decoded-encoded x (h .short) (h .session) (h .k-size) (h .h-size)
 
 -- a step keeps the method
 taken-method : (x : Exchange) (room : List ℕ) (q : Call) → taken x room q .method ≡ x .method
@@ -62,7 +67,7 @@ pub method-kept : (x : Exchange) (room : List ℕ) (q : Call) → exchangeAfter 
 unfolding exchangeAfter ended
 method-kept x room q = by-kind (kind (number x room q))
   where
-    by-kind : (k : Kind) → byKind k (taken x room q) x (ended (number x room q) (x .role) (x .method)) .method ≡ x .method
+    by-kind : (k : Kind) → byKind k (taken x room q) x (ended (number x room q) (x .role) (x .method) (x .session)) .method ≡ x .method
     by-kind accepted = taken-method x room q
     by-kind refused = refl
     by-kind fault = refl
@@ -71,6 +76,31 @@ method-kept x room q = by-kind (kind (number x room q))
 pub start-method : (role m : ℕ) (vc vs ic is : List ℕ) (room : ℕ) → startCause role m vc vs ic is room ≡ 0 → started role m vc vs ic is room .exchange .method ≡ m
 unfolding started
 start-method role m vc vs ic is room z = rw z
+
+-- a beginning has it from its argument, where it is accepted
+pub again-method : (x : Exchange) (room m m′ : ℕ) (ic is : List ℕ) (r : ℕ) → r ≡ againNumber x room m′ ic is → x .method ≡ m → againAfter x room m′ ic is .method ≡ running m r m′
+unfolding againAfter
+again-method x room m m′ ic is r e j = by-test (eqb (againNumber x room m′ ic is) 0) ∙ (λ i. running (j i) (sym e i) m′)
+  where
+    by-test : (t : Bool) → cond t (begunAgain x m′ (length ic) (length is)) x .method ≡ cond t m′ (x .method)
+    by-test true = refl
+    by-test false = refl
+
+-- what a beginning on an exchange's bytes is, by its definitions
+pub as-begun : (b : List ℕ) (x : Exchange) (room : List ℕ) (m : ℕ) (ic is : List ℕ) (n : ℕ) (ex room′ : List ℕ) → b ≡ encoded x → Storable x → left n [] ex room′ [] ≡ lentAgain b room m ic is
+    → (n ≡ againNumber x (length room) m ic is) × (ex ≡ encoded (againAfter x (length room) m ic is)) × (room′ ≡ againRoom x room m ic is)
+as-begun b x room m ic is n ex room′ e h l =
+    let k : left n [] ex room′ [] ≡ byAgain x room m ic is = l ∙ ap (λ (y : List ℕ). lentAgain y room m ic is) e ∙ sym (as-again x room m ic is h) in
+    (ap (λ (y : Left). y .number) k, ap (λ (y : Left). y .exchange) k, ap (λ (y : Left). y .room) k)
+
+-- the exchange that the book tells has the book's method
+pub told-method : (b : Book) (numbers : List ℕ) → exchangeTold b numbers .method ≡ b .method
+unfolding exchangeTold ended
+told-method b numbers = by-test (b .faulted)
+  where
+    by-test : (t : Bool) → cond t (ended (firstFault numbers) (b .role) (b .method) (sessionOf (finished b))) (exchangeOf b) .method ≡ b .method
+    by-test true = refl
+    by-test false = refl
 
 -- and the bytes of an exchange have its method
 pub method-there : (b : List ℕ) (x : Exchange) (m : ℕ) → b ≡ encoded x → Storable x → x .method ≡ m → decoded b .method ≡ m

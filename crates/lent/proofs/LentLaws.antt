@@ -50,7 +50,7 @@ module _ (n : ℕ) (b : List ℕ) where
       ∙ ap (λ (k : Kind). byKind k b b (bySize b (putHead (zeros 154 ++ drop 154 b) 6 n (decoded b .role) (decoded b .method) 0 0 0 0) b)) (sym (kind-fault n f))
 
   -- where the bytes' numbers were read, as they were for a fault, those are an ended exchange's
-  refused-are : length b ≡ exchangeSize → (¬ (n ≡ 1) → NumberBytes b)
+  refused-are : length b ≡ exchangeSize → (isFault n ≡ true → NumberBytes b)
       → refusedBytes n b ≡ byKind (kind n) b b (encoded (ended n (decoded b .role) (decoded b .method) (decoded b .session)))
   unfolding kind decoded
   refused-are l y = by-tests (eqb n 0) (isFault n) refl
@@ -60,7 +60,7 @@ module _ (n : ℕ) (b : List ℕ) where
       by-tests true u f = refl
       by-tests false false f = refl
       by-tests false true f =
-          let u = y (λ (e : n ≡ 1). false≢true (sym (ap isFault e) ∙ f)) in
+          let u = y f in
           sym (size-taken b b (putHead (zeros 154 ++ drop 154 b) 6 n (decoded b .role) (decoded b .method) 0 0 0 0) l)
           ∙ (λ i. putHead (zeros 154 ++ sym (session-stored b u l) i) 6 n (decoded b .role) (decoded b .method) 0 0 0 0)
           ∙ ended-bytes n (decoded b .role) (decoded b .method) (decoded b .session)
@@ -72,6 +72,10 @@ module _ (n : ℕ) (b : List ℕ) where
       by-test : (t : Bool) → x ≡ byKind (cond t accepted refused) x x y
       by-test true = refl
       by-test false = refl
+
+-- a fault is not 1
+pub fault-read : (n : ℕ) (b : List ℕ) → (¬ (n ≡ 1) → NumberBytes b) → isFault n ≡ true → NumberBytes b
+fault-read n b y f = y (λ (e : n ≡ 1). false≢true (sym (ap isFault e) ∙ f))
 
 -- what a refused step tells and writes: nothing
 module _ (e : Exchange) (room : List ℕ) where
@@ -95,12 +99,12 @@ outputs-stay n (out ∷ outs) (b ∷ bs) h = λ i. kind-same n (onto out b) out 
 
 module _ (b room : List ℕ) (q : Call) (outs : List (List ℕ)) where
   -- a refused call, by its number: the bytes and the room as the refusal leaves them, all told 0, the outputs as they were
-  pub call-refused : (n : ℕ) → n ≡ byFit b (number (decoded b) room q) 1 → (¬ (n ≡ 1) → NumberBytes b) → ¬ (n ≡ 0) → (r : ℕ) (ex room′ : List ℕ) → r ≡ n → ex ≡ refusedBytes n b → room′ ≡ refusedRoom n room
+  pub call-refused : (n : ℕ) → n ≡ byFit b (number (decoded b) room q) 1 → (isFault n ≡ true → NumberBytes b) → ¬ (n ≡ 0) → (r : ℕ) (ex room′ : List ℕ) → r ≡ n → ex ≡ refusedBytes n b → room′ ≡ refusedRoom n room
       → left r (zeros (toldSize q)) ex room′ outs ≡ lentCall b room q outs
   unfolding lentCall byFit stepLeft bytesAfter roomAfter kind
   call-refused n = by-fit (fits b) refl
     where
-      by-fit : (t : Bool) → fits b ≡ t → n ≡ cond t (number (decoded b) room q) 1 → (¬ (n ≡ 1) → NumberBytes b) → ¬ (n ≡ 0) → (r : ℕ) (ex room′ : List ℕ) → r ≡ n → ex ≡ refusedBytes n b → room′ ≡ refusedRoom n room
+      by-fit : (t : Bool) → fits b ≡ t → n ≡ cond t (number (decoded b) room q) 1 → (isFault n ≡ true → NumberBytes b) → ¬ (n ≡ 0) → (r : ℕ) (ex room′ : List ℕ) → r ≡ n → ex ≡ refusedBytes n b → room′ ≡ refusedRoom n room
           → left r (zeros (toldSize q)) ex room′ outs ≡ cond t (stepLeft b (decoded b) room q outs) (untouched b room (toldSize q) outs)
       by-fit false w e g h r ex room′ a x y =
           λ i. left ((a ∙ e) i) (zeros (toldSize q)) ((x ∙ ap (λ (m : ℕ). refusedBytes m b) e) i) ((y ∙ ap (λ (m : ℕ). refusedRoom m room) e) i) outs

@@ -9,7 +9,7 @@ use Rattle.exchange.specs.Steps.{ownC, fedCause}
 use Rattle.exchange.specs.declared.Stage.the-variants.{CSent}
 use Rattle.exchange.proofs.StepLaws.{output-accepted}
 use Rattle.stored.specs.Stored.{decoded}
-use Rattle.lent.proofs.LentLaws.{number-lent, call-refused, call-accepted, opened, c-changed}
+use Rattle.lent.proofs.LentLaws.{number-lent, call-refused, fault-read, call-accepted, opened, c-changed}
 use Rattle.lent_client.proofs.ClientLaws.{own-c-fits, own-c-tells, own-c-taken, own-c-room}
 use Rattle.lent_client.proofs.own_c.Statement.{statement}
 use Rattle.lent_client.proofs.own_c.Tie as tie
@@ -40,7 +40,7 @@ returns c =
     let r = now (a .room) in
     let q = ownC (now (a .c)) (length (now (a .out))) in
     let m = number-lent b r q [] _ _ _ _ (c .before .before .before .before .before .before .before .before .step-number .ensures .0) refl (c .before .before .before .before .before .before .before .before .before .before .before .byte-in .ensures) (c .before .before .before .before .before .before .before .before .before .before .own-c-cause .ensures) in
-    call-refused b r q (now (a .out) ∷ []) _ m (c .before .before .before .before .before .before .before .before .step-number .ensures .1) (c .before .before .before .before .before .before .before .if1 .taken) _ _ _ (c .before .before .before .before .refuse .ensures .0) (c .before .before .before .before .refuse .ensures .1) (c .before .before .before .before .refuse .ensures .2)
+    call-refused b r q (now (a .out) ∷ []) _ m (fault-read _ b (c .before .before .before .before .before .before .before .before .step-number .ensures .1)) (c .before .before .before .before .before .before .before .if1 .taken) _ _ _ (c .before .before .before .before .refuse .ensures .0) (c .before .before .before .before .refuse .ensures .1) (c .before .before .before .before .refuse .ensures .2)
 
 with-c-requires : tie.Need-with-c-requires
 with-c-requires c κs = search needs

@@ -12,7 +12,7 @@ use Rattle.wire.specs.Strings.{numberAt}
 use Rattle.buffers.specs.Bytes.{laid}
 use Rattle.lent.proofs.RoomLaws.{k-laid, k-length}
 use Rattle.stored.specs.Stored.{decoded}
-use Rattle.lent.proofs.LentLaws.{number-lent, call-refused, call-accepted, Opened, opened, completed}
+use Rattle.lent.proofs.LentLaws.{number-lent, call-refused, fault-read, call-accepted, Opened, opened, completed}
 use Rattle.lent_client.proofs.ClientLaws.{verdict-fits, verdict-tells, verdict-taken, verdict-room}
 use Rattle.lent_client.proofs.verdict.Statement.{statement}
 use Rattle.lent_client.proofs.verdict.Tie as tie
@@ -50,7 +50,7 @@ returns c =
     let r = now (a .room) in
     let q = verdict (a .signature) (a .host-key) (length (now (a .k-out))) in
     let m = number-lent b r q [] _ _ _ _ (c .before .before .before .before .before .before .before .before .step-number .ensures .0) refl refl (c .before .before .before .before .before .before .before .before .before .before .verdict-cause .ensures) in
-    call-refused b r q (now (a .k-out) ∷ []) _ m (c .before .before .before .before .before .before .before .before .step-number .ensures .1) (c .before .before .before .before .before .before .before .if1 .taken) _ _ _ (c .before .before .before .before .refuse .ensures .0) (c .before .before .before .before .refuse .ensures .1) (c .before .before .before .before .refuse .ensures .2)
+    call-refused b r q (now (a .k-out) ∷ []) _ m (fault-read _ b (c .before .before .before .before .before .before .before .before .step-number .ensures .1)) (c .before .before .before .before .before .before .before .if1 .taken) _ _ _ (c .before .before .before .before .refuse .ensures .0) (c .before .before .before .before .refuse .ensures .1) (c .before .before .before .before .refuse .ensures .2)
 
 finish-requires : tie.Need-finish-requires
 finish-requires c κs = accepts (c .before .before) .count-open

@@ -7,7 +7,7 @@ use Rattle.judge_peer.proofs.PeerLaws.{field-read}
 use Rattle.exchange.specs.Steps.{init, fedCause}
 use Rattle.exchange.specs.declared.Stage.the-variants.{InitRead}
 use Rattle.stored.specs.Stored.{decoded}
-use Rattle.lent.proofs.LentLaws.{number-lent, call-refused, call-accepted, opened, c-changed}
+use Rattle.lent.proofs.LentLaws.{number-lent, call-refused, fault-read, call-accepted, opened, c-changed}
 use Rattle.lent_server.proofs.ServerLaws.{init-room, init-taken, init-tells}
 use Rattle.lent_server.proofs.read_init.Statement.{statement}
 use Rattle.lent_server.proofs.read_init.Tie as tie
@@ -38,7 +38,7 @@ returns c =
     let r = now (a .room) in
     let q = init (now (a .payload)) in
     let m = number-lent b r q [] _ _ _ _ (c .before .before .before .before .before .before .before .before .step-number .ensures .0) refl (c .before .before .before .before .before .before .before .before .before .before .before .byte-in .ensures) (c .before .before .before .before .before .before .before .before .before .before .init-cause .ensures) in
-    call-refused b r q ([]) _ m (c .before .before .before .before .before .before .before .before .step-number .ensures .1) (c .before .before .before .before .before .before .before .if1 .taken) _ _ _ (c .before .before .before .before .refuse .ensures .0) (c .before .before .before .before .refuse .ensures .1) (c .before .before .before .before .refuse .ensures .2)
+    call-refused b r q ([]) _ m (fault-read _ b (c .before .before .before .before .before .before .before .before .step-number .ensures .1)) (c .before .before .before .before .before .before .before .if1 .taken) _ _ _ (c .before .before .before .before .refuse .ensures .0) (c .before .before .before .before .refuse .ensures .1) (c .before .before .before .before .refuse .ensures .2)
 
 string-part-requires : tie.Need-string-part-requires
 string-part-requires c κs = search needs

@@ -16,7 +16,7 @@ use Rattle.exchange.specs.declared.Lengths.{Lengths}
 use Rattle.exchange.proofs.StepLaws.{output-accepted}
 use Rattle.lent.proofs.RoomLaws.{k-laid, k-length}
 use Rattle.stored.specs.Stored.{decoded}
-use Rattle.lent.proofs.LentLaws.{number-lent, call-refused, call-accepted, Opened, opened, refused-stays, completed}
+use Rattle.lent.proofs.LentLaws.{number-lent, call-refused, fault-read, call-accepted, Opened, opened, refused-stays, completed}
 use Rattle.lent_server.proofs.ServerLaws.{Signable, sign-stays, sign-known, reply-sized, sign-sums, reply-stands, sign-tells, sign-taken, sign-room}
 use Rattle.lent_server.proofs.sign.Statement.{statement}
 use Rattle.lent_server.proofs.sign.Tie as tie
@@ -84,7 +84,7 @@ returns c =
     let r = now (a .room) in
     let m = number-lent b r (sign (now (a .signature)) (length (now (a .out))) (length (now (a .k-out)))) [] _ _ _ _ (c .before .step-number .ensures .0) refl refl (c .before .before .before .sign-cause .ensures) in
     let f = sign-stays b r (now (a .signature)) (now (a .out)) (now (a .k-out)) _ m in
-    call-refused b r (sign (now (a .signature)) (length (now (a .out))) (length (now (a .k-out)))) (now (a .out) ∷ now (a .k-out) ∷ []) _ m (c .before .step-number .ensures .1) (c .if1 .taken) _ _ _ refl (refused-stays _ b b _ f) (refused-stays _ b r _ f)
+    call-refused b r (sign (now (a .signature)) (length (now (a .out))) (length (now (a .k-out)))) (now (a .out) ∷ now (a .k-out) ∷ []) _ m (fault-read _ b (c .before .step-number .ensures .1)) (c .if1 .taken) _ _ _ refl (refused-stays _ b b _ f) (refused-stays _ b r _ f)
 
 lengths-in-requires : tie.Need-lengths-in-requires
 lengths-in-requires c κs = search needs
