@@ -244,21 +244,18 @@ static int same_room(const side *a) { return memcmp(a->room, was.room, sizeof wa
 static int same(const side *a) { return same_room(a) && memcmp(a->exchange, was.exchange, sizeof was.exchange) == 0; }
 
 /* What the exchange at hand must keep of its session. */
-static uint64_t id_due_len, completed_due;
-static uint8_t id_due[CASTULFRISA_H_SIZE];
+typedef struct { uint64_t id_len, completed; uint8_t id[CASTULFRISA_H_SIZE]; } session;
 
-static void no_session(void)
-{
-    id_due_len = completed_due = 0;
-    memset(id_due, 0, sizeof id_due);
-}
+static session kept;
+
+static void no_session(void) { memset(&kept, 0, sizeof kept); }
 
 /* Behind a last step that was accepted: the first H of a session is its identifier. */
 static void completed(void)
 {
-    if (completed_due++ > 0) return;
-    id_due_len = z.digest_len;
-    memcpy(id_due, h_due, sizeof id_due);
+    if (kept.completed++ > 0) return;
+    kept.id_len = z.digest_len;
+    memcpy(kept.id, h_due, sizeof kept.id);
 }
 
 static int session_is(const side *a)
@@ -266,8 +263,8 @@ static int session_is(const side *a)
     uint8_t id[CASTULFRISA_H_SIZE + 1];
     LEND(castulfrisa_session, t);
     memset(id, FILL, sizeof id);
-    return castulfrisa_session_id(a->exchange, EX, &t.told, id) == 0 && KEPT(t) && t.told.id_len == id_due_len
-        && t.told.completed == completed_due && memcmp(id, id_due, sizeof id_due) == 0 && id[CASTULFRISA_H_SIZE] == FILL;
+    return castulfrisa_session_id(a->exchange, EX, &t.told, id) == 0 && KEPT(t) && t.told.id_len == kept.id_len
+        && t.told.completed == kept.completed && memcmp(id, kept.id, sizeof kept.id) == 0 && id[CASTULFRISA_H_SIZE] == FILL;
 }
 
 static int no_session_id(const side *a, uint64_t len)
@@ -343,7 +340,7 @@ static void forge(side *a, uint64_t id_len, uint64_t count)
 static void forge_id(side *a)
 {
     size_t i;
-    for (i = 0; i < CASTULFRISA_H_SIZE; i++) a->exchange[ID_AT + i] = id_due[i] = (uint8_t)(200 - i);
+    for (i = 0; i < CASTULFRISA_H_SIZE; i++) a->exchange[ID_AT + i] = kept.id[i] = (uint8_t)(200 - i);
 }
 
 /* Where a step is due, in one exchange of each digest: it goes on where what was written fits, and the last step makes an identifier of H only of the
@@ -351,17 +348,15 @@ static void forge_id(side *a)
 static void forged(const side *a, call due)
 {
     static side copy;
-    const uint64_t len = id_due_len, completed_before = completed_due;
-    uint8_t id[CASTULFRISA_H_SIZE];
+    const session stood = kept;
     size_t i;
     if (method != CASTULFRISA_CURVE25519_SHA256 && method != CASTULFRISA_CURVE448_SHA512 && method != CASTULFRISA_NISTP384_SHA384) return;
-    memcpy(id, id_due, sizeof id);
     for (i = 0; i < COUNT(sessions); i++) {
         copy = *a;
         forge(&copy, sessions[i].id_len, sessions[i].completed);
         forge_id(&copy);
-        id_due_len = sessions[i].id_len;
-        completed_due = sessions[i].completed;
+        kept.id_len = sessions[i].id_len;
+        kept.completed = sessions[i].completed;
         is(sessions[i].told ? session_is(&copy) : no_session_id(&copy, EX), "the session where its bytes were written over");
         if (!sessions[i].runs) answered_1(&copy, EX, ROOM, NULL, "1, what is kept of the session does not fit");
         else {
@@ -370,9 +365,7 @@ static void forged(const side *a, call due)
             is(session_is(&copy), "the session behind it");
         }
     }
-    id_due_len = len;
-    completed_due = completed_before;
-    memcpy(id_due, id, sizeof id);
+    kept = stood;
 }
 
 /* Where a step is due: the others are not; 1 for an exchange of another length, and then 3 for a short room. */
@@ -537,8 +530,8 @@ static void key_by_hand(uint64_t letter, uint8_t due[CASTULFRISA_KEY_MOST + CAST
     memcpy(ahead, k, k_len);
     memcpy(ahead + k_len, h_due, z.digest_len);
     behind[0] = (uint8_t)letter;
-    memcpy(behind + 1, id_due, id_due_len);
-    hash_of(ahead, k_len + z.digest_len, behind, 1 + id_due_len, due);
+    memcpy(behind + 1, kept.id, kept.id_len);
+    hash_of(ahead, k_len + z.digest_len, behind, 1 + kept.id_len, due);
     for (made = z.digest_len; made < CASTULFRISA_KEY_MOST; made += z.digest_len)
         hash_of(ahead, k_len + z.digest_len, due, made, due + made);
 }
@@ -601,16 +594,15 @@ static void complete_that_do_not_fit(const side *a)
 static void keys_of_forged_sessions(const side *a)
 {
     static side copy;
-    const uint64_t len = id_due_len, completed_before = completed_due;
-    uint8_t id[CASTULFRISA_H_SIZE], due[CASTULFRISA_KEY_MOST + CASTULFRISA_H_SIZE];
+    const session stood = kept;
+    uint8_t due[CASTULFRISA_KEY_MOST + CASTULFRISA_H_SIZE];
     size_t i;
-    memcpy(id, id_due, sizeof id);
     for (i = 0; i < COUNT(sessions); i++) {
         copy = *a;
         forge(&copy, sessions[i].id_len, sessions[i].completed);
         forge_id(&copy);
-        id_due_len = sessions[i].id_len;
-        completed_due = sessions[i].completed;
+        kept.id_len = sessions[i].id_len;
+        kept.completed = sessions[i].completed;
         is(sessions[i].told ? session_is(&copy) : no_session_id(&copy, EX), "a complete session where its bytes were written over");
         if (!sessions[i].complete) not_complete(&copy, "1, what is kept of the session does not fit a complete exchange");
         else {
@@ -620,9 +612,7 @@ static void keys_of_forged_sessions(const side *a)
                && memcmp(key, due, sizeof key - 1) == 0 && same(&copy), "a key by the identifier that stands there");
         }
     }
-    id_due_len = len;
-    completed_due = completed_before;
-    memcpy(id_due, id, sizeof id);
+    kept = stood;
 }
 
 /* Every key of a complete exchange: the exchange is only read, and the room is not lent. */
@@ -821,18 +811,19 @@ static void again_refused(side *a, uint64_t role, uint64_t otherwise)
 static void last_of_a_session(const side *a, uint64_t role)
 {
     static side copy;
-    const uint64_t completed_before = completed_due;
+    const session stood = kept;
     copy = *a;
-    completed_due = COUNT_MOST - 1;
-    forge(&copy, id_due_len, completed_due);
+    kept.completed = COUNT_MOST - 1;
+    forge(&copy, kept.id_len, kept.completed);
     begun(&copy, role);
     stepped(&copy, role);
-    is(completed_due == COUNT_MOST && session_is(&copy), "the last exchange of a session");
+    is(kept.completed == COUNT_MOST && session_is(&copy), "the last exchange of a session");
     again_refused(&copy, role, CASTULFRISA_COUNT_FULL);
-    completed_due = completed_before;
+    kept = stood;
 }
 
-/* The V's are taken as they stand, judged neither by their bytes nor by their length bytes, and stay; the longest I's and the shortest are taken. */
+/* The V's are taken as they stand, judged neither by their bytes nor by their length bytes, and stay; the longest I's and the shortest are taken, in a
+   room that is a byte longer than before. */
 static void again_takes_what_stands(const side *a)
 {
     static const uint64_t lens[] = {1, CASTULFRISA_KEXINIT_MOST};
@@ -841,7 +832,7 @@ static void again_takes_what_stands(const side *a)
     uint8_t digest[CASTULFRISA_H_SIZE];
     size_t i;
     for (i = 0; i < COUNT(lens); i++) {
-        beginning o = {ROOM, method, i_c, i_s, lens[i], lens[COUNT(lens) - 1 - i]};
+        beginning o = {ROOM + 1, method, i_c, i_s, lens[i], lens[COUNT(lens) - 1 - i]};
         copy = *a;
         memcpy(copy.room, "\xff\0\r\n\0\r\n", 7);
         memcpy(copy.room + 4 + v_c_len, "\xff\xff\xff\xff\n\0\r", 7);
@@ -864,12 +855,12 @@ static void again_takes_what_stands(const side *a)
 static void identifier_is_what_stands(const side *a, call last)
 {
     static side copy;
-    if (completed_due > 0) return;
+    if (kept.completed > 0) return;
     copy = *a;
     copy.exchange[H_AT + CASTULFRISA_H_SIZE - 1] ^= 0x5a;
     is(last(&copy, EX, ROOM) == 0, "the last step");
     completed();
-    id_due[CASTULFRISA_H_SIZE - 1] ^= 0x5a;
+    kept.id[CASTULFRISA_H_SIZE - 1] ^= 0x5a;
     is(session_is(&copy), "an identifier of what stands in the record");
     no_session();
 }
@@ -878,10 +869,8 @@ static void identifier_is_what_stands(const side *a, call last)
 static void starts_forget(const side *a, uint64_t role)
 {
     static side copy;
-    const uint64_t len = id_due_len, completed_before = completed_due;
-    uint8_t id[CASTULFRISA_H_SIZE];
+    const session stood = kept;
     opening o = right_opening(role);
-    memcpy(id, id_due, sizeof id);
     no_session();
     copy = *a;
     is(start(&copy, &o) == 0 && state_is(&copy, CASTULFRISA_STARTED, 0, role, method), "a start where a session was");
@@ -890,9 +879,7 @@ static void starts_forget(const side *a, uint64_t role)
     o.v_c_len = 0;
     is(start(&copy, &o) == CASTULFRISA_BAD_INPUT && state_is(&copy, CASTULFRISA_FAILED, CASTULFRISA_BAD_INPUT, 0, 0), "a refused one");
     is(all(copy.exchange + LENGTHS_AT, 0, EX - LENGTHS_AT), "and nothing of it is left");
-    id_due_len = len;
-    completed_due = completed_before;
-    memcpy(id_due, id, sizeof id);
+    kept = stood;
 }
 
 /* ---- what is refused at the start, what ends an exchange, and what is none */
@@ -1035,13 +1022,13 @@ static void no_exchanges(void)
 }
 
 /* Three exchanges of a session, the second by a method of another digest, the third by the first one's. */
-static void session(side *a, uint64_t role, uint64_t first)
+static void night(side *a, uint64_t role, uint64_t first)
 {
     static const uint64_t second[] = {3, 8, 8, 5, 6, 9, 6, 2, 5};
     unsigned number;
     for (number = 0; number < 3; number++) {
         material(number == 1 ? second[first - 1] : first, number);
-        is(number == 0 || z.digest_len != id_due_len || number == 2, "another digest than the first");
+        is(number != 1 || z.digest_len != kept.id_len, "another digest than the first one's");
         if (number == 0) started(a, role);
         else begun(a, role);
         if (number == 2) stepped(a, role);
@@ -1074,7 +1061,8 @@ static void faults(uint64_t m)
     started(&server, CASTULFRISA_SERVER);
     started(&client, CASTULFRISA_CLIENT);
     for (number = 0; number < 2; number++) {
-        side at_start = client;
+        static side at_start;
+        at_start = client;
         is(own_c(&client, EX, ROOM) == 0, "a client that waits for REPLY");
         peers_faults();
         if (number > 0) break;
@@ -1092,8 +1080,8 @@ void exchanges(void)
 {
     uint64_t m;
     for (m = 1; m <= 9; m++) {
-        session(&client, CASTULFRISA_CLIENT, m);
-        session(&server, CASTULFRISA_SERVER, m);
+        night(&client, CASTULFRISA_CLIENT, m);
+        night(&server, CASTULFRISA_SERVER, m);
         faults(m);
     }
     material(CASTULFRISA_CURVE25519_SHA256, 0);
