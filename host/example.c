@@ -1,6 +1,6 @@
-/* A client and a server complete one key exchange in one process, with curve25519-sha256 and an ssh-ed25519 host key, on OpenSSL's
-   libcrypto, and derive their keys: the calls in their order, what goes in between, every number looked at, and what is wiped. Buffers stand
-   for the network; dock/ is a host over sockets. */
+/* A client and a server complete a key exchange in one process, with curve25519-sha256 and an ssh-ed25519 host key, on OpenSSL's
+   libcrypto, derive their keys, and do it again, as a rekeying does: the calls in their order, what goes in between, every number looked at,
+   what is kept and what is wiped. Buffers stand for the network; dock/ is a host over sockets. */
 #include "castulfrisa.h"
 #include <openssl/crypto.h>
 #include <openssl/evp.h>
@@ -14,14 +14,15 @@
 #define TEXT(s) (const uint8_t *)(s), sizeof(s) - 1
 #define EXCHANGE(a) (a)->exchange, sizeof (a)->exchange
 #define ROOM(a) (a)->room, sizeof (a)->room
+#define VERSIONS (4 + sizeof V_C - 1 + 4 + sizeof V_S - 1) /* the room's beginning, two strings, which the next exchange finds there */
 
 /* The keys of one direction, as long as aes256-ctr and hmac-sha2-256 want them. */
 struct keys { uint8_t iv[16], cipher[32], mac[32]; };
 
-/* What one side keeps of an exchange: one place, no copies, wiped as a whole. */
+/* What one side keeps: one place, no copies, wiped as a whole. Exchange and room serve every exchange of the connection. */
 struct side {
     uint8_t exchange[CASTULFRISA_EXCHANGE], room[CASTULFRISA_ROOM];
-    EVP_PKEY *own; /* the ephemeral key */
+    EVP_PKEY *own; /* the ephemeral key, of one exchange */
     uint8_t x[32], h[CASTULFRISA_H_SIZE], k[CASTULFRISA_K];
     struct keys c2s, s2c;
 };
@@ -41,10 +42,11 @@ static int accepted(const char *call, uint64_t number)
     return number == CASTULFRISA_OK;
 }
 
-/* A new key pair, and its public value for the wire. */
+/* A new key pair in the last one's place, and its public value for the wire. */
 static int draw(EVP_PKEY **key, const char *type, uint8_t value[32])
 {
     size_t len = 32;
+    EVP_PKEY_free(*key);
     *key = EVP_PKEY_Q_keygen(NULL, NULL, type);
     return *key != NULL && EVP_PKEY_get_raw_public_key(*key, value, &len) == 1 && len == 32;
 }
@@ -126,22 +128,24 @@ static int write_kexinit(struct message *m)
     return accepted("write_kexinit", number);
 }
 
-/* The choice, and the exchange begun. */
-static int start(struct side *a, uint64_t role)
+/* The choice, and the exchange begun: the connection's first, or another one. */
+static int start(struct side *a, uint64_t role, int first)
 {
     castulfrisa_choice choice;
-    return accepted("choose", castulfrisa_choose(i_c.bytes, i_c.len, i_s.bytes, i_s.len, &choice))
-        && accepted("start", castulfrisa_start(EXCHANGE(a), role, choice.method, TEXT(V_C), TEXT(V_S), i_c.bytes, i_c.len, i_s.bytes,
-                                               i_s.len, ROOM(a)));
+    if (!accepted("choose", castulfrisa_choose(i_c.bytes, i_c.len, i_s.bytes, i_s.len, &choice))) return 0;
+    if (first)
+        return accepted("start", castulfrisa_start(EXCHANGE(a), role, choice.method, TEXT(V_C), TEXT(V_S), i_c.bytes, i_c.len, i_s.bytes,
+                                                   i_s.len, ROOM(a)));
+    return accepted("again", castulfrisa_again(EXCHANGE(a), ROOM(a), choice.method, i_c.bytes, i_c.len, i_s.bytes, i_s.len));
 }
 
 /* ---- the dance: INIT, REPLY, the verdict, and the keys. From the secret step on each call leaves K on the stack, accepted or not: what makes
    one of them wipes it. */
 
-static int client_begins(struct side *a)
+static int client_begins(struct side *a, int first)
 {
     uint8_t c[32];
-    return start(a, CASTULFRISA_CLIENT) && draw(&a->own, "X25519", c)
+    return start(a, CASTULFRISA_CLIENT, first) && draw(&a->own, "X25519", c)
         && accepted("own_c", castulfrisa_own_c(EXCHANGE(a), ROOM(a), c, sizeof c, init.bytes, sizeof init.bytes, &init.len));
 }
 
@@ -157,14 +161,14 @@ static int take_secret(struct side *a, const uint8_t *value, uint64_t value_len,
     return accepted("take_secret", number);
 }
 
-static int server_answers(struct side *a)
+static int server_answers(struct side *a, int first)
 {
     uint8_t s[32], signature[64], blob[128];
     uint64_t blob_len;
     castulfrisa_part c;
     castulfrisa_signed counts;
     uint64_t number;
-    if (!start(a, CASTULFRISA_SERVER) || !draw(&a->own, "X25519", s)
+    if (!start(a, CASTULFRISA_SERVER, first) || !draw(&a->own, "X25519", s)
         || !accepted("read_init", castulfrisa_read_init(EXCHANGE(a), ROOM(a), init.bytes, init.len, &c))
         || !take_secret(a, init.bytes + c.start, c.len, known, known_len, s, sizeof s)
         || !sign(a->h, signature) || !write_blob(blob, sizeof blob, signature, sizeof signature, &blob_len)) return 0;
@@ -174,7 +178,7 @@ static int server_answers(struct side *a)
     return accepted("sign", number);
 }
 
-/* Two answers, each 1 or 0: whether the signature holds over H under K_S, and whether K_S is the host key that is known. */
+/* Two answers, each 1 or 0: whether the signature holds over H under K_S, and whether K_S is the host key that is known, the same in every exchange. */
 static int verdict(struct side *a, const castulfrisa_reply *parts)
 {
     const uint8_t *ks = reply.bytes + parts->host_key.start;
@@ -194,7 +198,8 @@ static int client_ends(struct side *a)
         && take_secret(a, reply.bytes + parts.s.start, parts.s.len, NULL, 0, NULL, 0) && verdict(a, &parts);
 }
 
-/* The six keys, of the complete exchange alone: what else holds K, or what K is made of, is wiped first, and the exchange behind the last key. */
+/* The six keys, of the complete exchange alone: what else holds K, or what K is made of, is wiped first. The exchange stays, and of the room the
+   versions: the next exchange begins with them. */
 static int derive(struct side *a)
 {
     const struct { uint64_t letter; uint8_t *key; uint64_t len; } six[] = {
@@ -203,14 +208,35 @@ static int derive(struct side *a)
         {CASTULFRISA_MAC_KEY_C2S, a->c2s.mac, sizeof a->c2s.mac}, {CASTULFRISA_MAC_KEY_S2C, a->s2c.mac, sizeof a->s2c.mac}};
     uint64_t number = CASTULFRISA_OK;
     size_t i;
-    castulfrisa_wipe(ROOM(a));
+    castulfrisa_wipe(a->room + VERSIONS, sizeof a->room - VERSIONS);
     castulfrisa_wipe(a->x, sizeof a->x);
     castulfrisa_wipe(a->k, sizeof a->k);
     for (i = 0; i < 6 && number == CASTULFRISA_OK; i++)
         number = castulfrisa_derive(EXCHANGE(a), six[i].letter, six[i].len, six[i].key, six[i].len);
-    castulfrisa_wipe(EXCHANGE(a));
     castulfrisa_wipe_stack();
     return accepted("derive", number);
+}
+
+/* The same session on both sides: its identifier is the first H, whose digest has 32 bytes, and so many exchanges are complete. */
+static int same_session(struct side *a, struct side *b, const uint8_t *h, uint64_t completed)
+{
+    castulfrisa_session of_a, of_b;
+    uint8_t id_a[CASTULFRISA_H_SIZE], id_b[CASTULFRISA_H_SIZE];
+    return accepted("session_id", castulfrisa_session_id(EXCHANGE(a), &of_a, id_a))
+        && accepted("session_id", castulfrisa_session_id(EXCHANGE(b), &of_b, id_b)) && of_a.completed == completed
+        && of_b.completed == completed && of_a.id_len == CASTULFRISA_SHA256 && of_b.id_len == CASTULFRISA_SHA256
+        && memcmp(id_a, h, of_a.id_len) == 0 && memcmp(id_b, h, of_b.id_len) == 0;
+}
+
+/* One exchange, from the two KEXINITs to keys that both sides have. */
+static int exchange(struct side *client, struct side *server, int first)
+{
+    return write_kexinit(&i_c) && write_kexinit(&i_s) && client_begins(client, first) && server_answers(server, first) && client_ends(client)
+        && derive(client) && derive(server)
+        /* here a host hands its keys to its cipher and its MAC; this one compares */
+        && CRYPTO_memcmp(&client->c2s, &server->c2s, sizeof client->c2s) == 0
+        && CRYPTO_memcmp(&client->s2c, &server->s2c, sizeof client->s2c) == 0
+        && CRYPTO_memcmp(&client->c2s, &client->s2c, sizeof client->c2s) != 0 && CRYPTO_memcmp(client->h, server->h, sizeof client->h) == 0;
 }
 
 /* Whatever of it is still there, H and the keys too; libcrypto clears a private key that it frees. */
@@ -223,18 +249,20 @@ static void wipe(struct side *a)
 int main(void)
 {
     static struct side client, server;
-    uint8_t value[32];
+    static struct keys old;
+    uint8_t value[32], h[CASTULFRISA_H_SIZE];
     int good = castulfrisa_version() == CASTULFRISA_VERSION; /* or header and archive are of different days */
 
     good = good && draw(&host_key, "ED25519", value) && write_blob(known, sizeof known, value, sizeof value, &known_len);
-    good = good && write_kexinit(&i_c) && write_kexinit(&i_s);
-    good = good && client_begins(&client) && server_answers(&server) && client_ends(&client);
-    good = good && derive(&client) && derive(&server);
+    good = good && exchange(&client, &server, 1);
+    memcpy(h, client.h, sizeof h);
+    old = client.c2s; /* they serve until NEWKEYS of the next exchange */
+    good = good && same_session(&client, &server, h, 1);
 
-    /* here a host hands its keys to its cipher and its MAC, and keeps H as the session identifier; this one compares */
-    good = good && CRYPTO_memcmp(&client.c2s, &server.c2s, sizeof client.c2s) == 0
-        && CRYPTO_memcmp(&client.s2c, &server.s2c, sizeof client.s2c) == 0
-        && CRYPTO_memcmp(&client.c2s, &client.s2c, sizeof client.c2s) != 0 && CRYPTO_memcmp(client.h, server.h, sizeof client.h) == 0;
+    /* an hour later, or a gigabyte: the versions stand in the room, and the session's identifier in the exchange */
+    good = good && exchange(&client, &server, 0) && same_session(&client, &server, h, 2);
+    good = good && CRYPTO_memcmp(&old, &client.c2s, sizeof old) != 0 && CRYPTO_memcmp(client.h, h, sizeof h) != 0;
+    castulfrisa_wipe((uint8_t *)&old, sizeof old);
     wipe(&client);
     wipe(&server);
     EVP_PKEY_free(host_key);

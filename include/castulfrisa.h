@@ -7,22 +7,23 @@
 
    WHAT CROSSES
    - Buffers as a pointer and a 64-bit length in bytes, 64-bit numbers, pointers to 64-bit numbers that the call fills in, and to the 64
-     bytes of H or of a digest; nothing else, so that one library serves every calling convention. The structs below are runs of 64-bit
-     numbers and cross as a pointer. On 32 bits a length is a 64-bit number too, wider than size_t: the prototypes convert what is handed
-     in, and a size_t takes what is told.
-   - A buffer's length of 0 takes any pointer, also NULL. A pointer to numbers is never NULL, and stands at a multiple of 8; one to H or to a
-     digest is never NULL.
+     bytes of H, of a digest or of the session identifier; nothing else, so that one library serves every calling convention. The structs
+     below are runs of 64-bit numbers and cross as a pointer. On 32 bits a length is a 64-bit number too, wider than size_t: the prototypes
+     convert what is handed in, and a size_t takes what is told.
+   - A buffer's length of 0 takes any pointer, also NULL. A pointer to numbers is never NULL, and stands at a multiple of 8; one to H, to a
+     digest or to the session identifier is never NULL.
    - Every buffer stays the caller's. `const` buffers are read and never written. What is written, buffer or numbers, shares no byte with
      anything else of the same call; and while a call runs, nobody else writes what it was lent or reads what it writes.
    - An output is written from its first byte on. Bytes past those that are counted, or of a key asked for, stay as they were; but the output
      for K gets all CASTULFRISA_K bytes, zeros after K.
-   - H and a digest have CASTULFRISA_H_SIZE bytes, which every answer writes: zeros after the digest, all zeros on a refusal.
+   - H, a digest and the session identifier have CASTULFRISA_H_SIZE bytes, which every answer writes: zeros after the digest, all zeros on a
+     refusal.
 
    ANSWERS
    - A call returns its number: 0, or the first cause against it (enum castulfrisa_number; castulfrisa_text has a sentence for each).
      There is no other error channel. Only castulfrisa_method_number, castulfrisa_version and castulfrisa_join return something else.
    - On any number but 0 all that is told through lent numbers is 0, but a bad list's number and a cursor (castulfrisa_next_name's stays, a
-     refused castulfrisa_open_list's yields only the end), and all outputs but H and a digest are as they were.
+     refused castulfrisa_open_list's yields only the end), and all outputs but H, a digest and the session identifier are as they were.
    - A part is a place in the payload that was handed in: bytes payload[start] to payload[start + len - 1].
    - Numbers are judged as they come, all 64 bits: 257 is no method. A yes is 1; every other number, 2 too, is a no. A yes/no that is
      told is 1 or 0.
@@ -33,9 +34,15 @@
      Bytes that no exchange has, and buffers of another length, are answered 1 and stay.
    - The room is the caller's buffer of at least CASTULFRISA_ROOM bytes, the same at every call of one exchange and no other's, and nobody
      writes to it in between. It begins with the fields of the hash input so far.
-   - From the secret step on the exchange holds K and H, and the room K. A complete exchange is all that the keys are derived from: room and K
-     output may be wiped when it is complete, the exchange when castulfrisa_derive gave the last key. The library wipes exchange and room on a peer's
-     fault only: castulfrisa_wipe them, the K output and the keys, and castulfrisa_wipe_stack what the calls left below them.
+   - A complete exchange is what castulfrisa_derive takes the keys from, and behind the last of them what castulfrisa_again begins the
+     connection's next exchange with, in the same two buffers. It keeps the session identifier, which is H of the first exchange completed
+     since castulfrisa_start, and how many were completed: no later exchange changes the identifier, and a fault neither.
+   - From the secret step on the exchange holds K and H, and the room K. Where the connection may be rekeyed, keep exchange and room as long
+     as it lasts. Of a complete exchange's room castulfrisa_again needs the beginning, V_C and V_S with four length bytes each: all behind it
+     may be wiped, and must be where K is not to stand there until it is written over. castulfrisa_again takes K and H out of the exchange.
+     Where no other exchange follows, the room may be wiped when it is complete, the exchange when castulfrisa_derive gave the last key. The
+     library wipes exchange and room on a peer's fault only: castulfrisa_wipe them, the K output and the keys, and castulfrisa_wipe_stack what
+     the calls left below them.
 
    A HASH
    - It is a buffer of CASTULFRISA_HASH_SIZE bytes, the caller's, which only the library reads and writes: castulfrisa_hash_start makes it,
@@ -54,7 +61,7 @@ extern "C" {
 
 /* The number of this header. castulfrisa_version() tells the archive's: where the two differ, they are of different days. It goes up
    by one where an entry or a size changes. */
-#define CASTULFRISA_VERSION 4
+#define CASTULFRISA_VERSION 5
 
 #if defined(__GNUC__)
 #define CASTULFRISA_MUST_USE __attribute__((warn_unused_result))
@@ -71,7 +78,7 @@ extern "C" {
 
 /* ---- sizes, in bytes */
 
-#define CASTULFRISA_EXCHANGE 154       /* the exchange, exactly */
+#define CASTULFRISA_EXCHANGE 228       /* the exchange, exactly */
 #define CASTULFRISA_ROOM 14156         /* the room, at least */
 #define CASTULFRISA_INIT 1670          /* the output for INIT, at least, in every method */
 #define CASTULFRISA_REPLY 5774         /* the output for REPLY, at least, in every method */
@@ -83,7 +90,7 @@ extern "C" {
 #define CASTULFRISA_VALUE_MOST 1665    /* C and S of any method; castulfrisa_method_sizes has each */
 #define CASTULFRISA_X_MOST 66          /* the classical output X of any method */
 #define CASTULFRISA_K_PQ_SIZE 32       /* the KEM's output K_PQ, exactly, in methods 7 to 9 */
-#define CASTULFRISA_H_SIZE 64          /* H, and a digest, exactly: the digest's own bytes, then zeros */
+#define CASTULFRISA_H_SIZE 64          /* H, a digest and the session identifier, exactly: the digest's own bytes, then zeros */
 #define CASTULFRISA_KEY_MOST 128       /* a key: 1 to this */
 #define CASTULFRISA_HASH_SIZE 209      /* a hash, exactly */
 #define CASTULFRISA_HASH_MOST 65536    /* what one hash is fed in all */
@@ -98,16 +105,17 @@ extern "C" {
 #endif
 
 /* ---- numbers given back
-   1 to 5 and 19 to 22: nothing changes, neither exchange, room, hash nor output; but a refused start leaves a failed exchange, or a hash of
-   no kind, and H and a digest become zeros.
+   1 to 5 and 19 to 23: nothing changes, neither exchange, room, hash nor output; but a refused start leaves a failed exchange, or a hash of
+   no kind, and H, a digest and the session identifier that a call tells become zeros.
    10 to 18 in a step are a peer's fault: the whole room becomes zeros and the exchange has failed for good with that number; of it only
-   role, method and number are left, no length, no K and no H. Outputs stay, H becomes zeros. Where there is no exchange (strings, mpints,
+   role, method and number are left, the session identifier and how many exchanges were completed: no length, no K and no H. Outputs stay,
+   H becomes zeros. Where there is no exchange (strings, mpints,
    KEXINIT, choice) 10 to 13 change nothing. */
 
 enum castulfrisa_number {
     CASTULFRISA_OK = 0,                  /* accepted */
-    CASTULFRISA_NOT_DUE = 1,             /* the call is not due: a step out of turn, also when complete or failed, or a key of an exchange that
-                                            is not complete; or the bytes are no exchange's */
+    CASTULFRISA_NOT_DUE = 1,             /* the call is not due: a step out of turn, also when complete or failed, or a key or a new beginning of
+                                            an exchange that is not complete; or the bytes are no exchange's */
     CASTULFRISA_NO_METHOD = 2,           /* method not 1 to 9, or role neither client nor server */
     CASTULFRISA_SHORT_ROOM = 3,          /* room too short */
     CASTULFRISA_BAD_INPUT = 4,           /* a field, outcome, K_PQ or hash handed in has a wrong length or form, a hash would be fed too much, or
@@ -125,7 +133,8 @@ enum castulfrisa_number {
     CASTULFRISA_BAD_NAME = 19,           /* bad name in a list */
     CASTULFRISA_NO_COMMON_METHOD = 20,   /* no method in both lists */
     CASTULFRISA_NO_COMMON_HOST_KEY = 21, /* no host key name in both lists */
-    CASTULFRISA_NOT_SHORTEST = 22        /* mpint body could be shorter */
+    CASTULFRISA_NOT_SHORTEST = 22,       /* mpint body could be shorter */
+    CASTULFRISA_COUNT_FULL = 23          /* 4,294,967,295 exchanges are complete: this session can begin no other */
 };
 
 enum castulfrisa_role { CASTULFRISA_CLIENT = 1, CASTULFRISA_SERVER = 2 };
@@ -226,6 +235,11 @@ typedef struct {
     uint64_t role, method; /* 0 in a start that was refused */
 } castulfrisa_progress;
 
+typedef struct {
+    uint64_t id_len;    /* the session identifier's bytes: 0 until the first exchange is complete, then 32, 48 or 64 */
+    uint64_t completed; /* how many exchanges were completed since castulfrisa_start */
+} castulfrisa_session;
+
 /* ---- strings and mpints (RFC 4251, section 5) */
 
 /* Reads the string at the front of s: body, and the rest behind it, as parts of s.
@@ -291,13 +305,15 @@ CASTULFRISA_MUST_USE uint64_t castulfrisa_choose(
 
 /* ---- an exchange, in the order of its life
    client: start, own_c, read_reply, take_secret, verdict.   server: start, read_init, take_secret, sign.
+   A connection's later exchanges: again in start's place, once the keys are derived, and the same steps.
    Every step is answered 1 for bytes that no exchange has and while it is not due, then 3 for a room below CASTULFRISA_ROOM, then by its
    own causes. */
 
 /* Starts an exchange in role (enum castulfrisa_role) and method, in an exchange buffer that may hold anything. V_C, V_S: the version
    lines without CR and LF. I_C, I_S: the two KEXINIT payloads. All four go into the room; the rest of it stays.
    1: exchange_len; 2: role or method; 3: room; 4: one of the four. On 2 to 4 the room stays, and the exchange is one that failed with the
-   number: a live one that stood there is gone. */
+   number. Accepted or refused, what stood there is gone, the session identifier too: a connection's later exchanges begin with
+   castulfrisa_again. */
 CASTULFRISA_MUST_USE uint64_t castulfrisa_start(
     uint8_t *exchange, uint64_t exchange_len,
     uint64_t role, uint64_t method,
@@ -360,6 +376,17 @@ CASTULFRISA_MUST_USE uint64_t castulfrisa_verdict(
     uint8_t *exchange, uint64_t exchange_len, uint8_t *room, uint64_t room_len,
     uint64_t signature, uint64_t host_key, uint8_t *k_out, uint64_t k_out_len, uint64_t *count);
 
+/* Both roles: begins a complete exchange again, in the same role and any method, with the V's as they stand at the room's beginning, which
+   stay there and are not judged, and new I_C and I_S, which go into the room behind them; the rest of it stays. K and H become zeros: derive
+   the keys first. The session identifier and how many exchanges were completed stay.
+   1: no exchange's bytes, not complete, or something in it does not fit; 2: method; 3: room; 4: I_C or I_S; 23. Refused, the exchange stays
+   complete. */
+CASTULFRISA_MUST_USE uint64_t castulfrisa_again(
+    uint8_t *exchange, uint64_t exchange_len, uint8_t *room, uint64_t room_len,
+    uint64_t method,
+    const uint8_t *ic, uint64_t ic_len,
+    const uint8_t *is, uint64_t is_len);
+
 /* ---- calls on an exchange that are no steps: they tell, or derive a key, and change neither exchange nor room */
 
 /* What castulfrisa_read_init would answer, and where C stands in the INIT; {0, 0} for all that it would refuse. */
@@ -382,10 +409,16 @@ CASTULFRISA_MUST_USE uint64_t castulfrisa_reply_signature(
    number that ended it is no exchange's, and all of it is 0. Whether the rest fits, the next call judges. */
 CASTULFRISA_MUST_USE uint64_t castulfrisa_state(const uint8_t *exchange, uint64_t exchange_len, castulfrisa_progress *told);
 
-/* A key of a complete exchange, by RFC 4253, section 7.2, and by the method's hash: of K and H, which the exchange holds, of the key's letter (enum
-   castulfrisa_letter), and of the session identifier, which is H. `length` bytes of it go to the beginning of key: fewer are a beginning of what
+/* The session identifier, which user authentication signs, and how many exchanges were completed, at every stage, also of a failed one; zeros
+   until the first is complete. The first id_len bytes of id are it.
+   1: no exchange's bytes, or the identifier's length does not go with the count (0 where that is 0, else 32, 48 or 64). */
+CASTULFRISA_MUST_USE uint64_t castulfrisa_session_id(
+    const uint8_t *exchange, uint64_t exchange_len, castulfrisa_session *told, uint8_t id[CASTULFRISA_H_SIZE]);
+
+/* A key of a complete exchange, by RFC 4253, section 7.2, and by the method's hash: of K, H and the session identifier, which the exchange
+   holds, and of the key's letter (enum castulfrisa_letter). `length` bytes of it go to the beginning of key: fewer are a beginning of what
    more would be.
-   1: no exchange's bytes, not complete, or its role, method or a length in it does not fit; 4: letter, or a length not 1 to CASTULFRISA_KEY_MOST,
+   1: no exchange's bytes, not complete, or its role, method, a length or the count in it does not fit; 4: letter, or a length not 1 to CASTULFRISA_KEY_MOST,
    however long key is; 5: key shorter than the length. */
 CASTULFRISA_MUST_USE uint64_t castulfrisa_derive(
     const uint8_t *exchange, uint64_t exchange_len, uint64_t letter, uint64_t length, uint8_t *key, uint64_t key_len);
@@ -463,6 +496,7 @@ CASTULFRISA_MUST_USE static inline const char *castulfrisa_text(uint64_t number)
     case CASTULFRISA_NO_COMMON_METHOD: return "the two sides have no method in common";
     case CASTULFRISA_NO_COMMON_HOST_KEY: return "the two sides have no host key algorithm in common";
     case CASTULFRISA_NOT_SHORTEST: return "an mpint could be shorter";
+    case CASTULFRISA_COUNT_FULL: return "4,294,967,295 exchanges are complete: this session can begin no other";
     default: return "no number of this library";
     }
 }

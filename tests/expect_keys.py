@@ -12,26 +12,28 @@ sys.dont_write_bytecode = True
 from held import ROOT, written
 from published import METHODS, of_records
 
-KEYS = 56
-MARK, COMPLETE = 2, 5
+KEYS = 134
+MARK, COMPLETE = 3, 5
 
 
-def complete(role, method, k, h):
-    """A complete exchange as the bytes that a host lends, 154 of them: mark, stage, fail number, role, method, seven lengths, K's record, H."""
+def complete(role, method, k, h, identifier):
+    """A complete exchange as the bytes that a host lends, 228 of them: mark, stage, fail number, role, method, seven lengths, K's record, H; the
+    identifier's length, how many exchanges were completed, 1 where it is H, and the identifier."""
     row = METHODS[method]
     lengths = b''.join(n.to_bytes(2, 'big') for n in (9, 9, 20, 20, 8, row.c, row.s))
-    return bytes([MARK, COMPLETE, 0, role, method]) + lengths + k.ljust(71, b'\0') + h.ljust(64, b'\0')
+    session = len(identifier).to_bytes(2, 'big') + (1 if identifier == h else 2).to_bytes(8, 'big') + identifier.ljust(64, b'\0')
+    return bytes([MARK, COMPLETE, 0, role, method]) + lengths + k.ljust(71, b'\0') + h.ljust(64, b'\0') + session
 
 
 def asked():
-    """A key, 156 bytes: letter and length a byte each, and the exchange; and the line that is printed for it."""
-    keys = list(of_records())
+    """A key, 230 bytes: letter and length a byte each, and the exchange; and the line that is printed for it."""
+    keys = list(of_records(later=True))
     if len(keys) != KEYS:
         raise SystemExit(f'expect_keys.py: {len(keys)} keys, not {KEYS}')
     for method, key in keys:
         ends = {end + by for end in range(key.kind, len(key.key), key.kind) for by in (-1, 0, 1)}
         for length in sorted({1, len(key.key)} | {end for end in ends if 0 < end < len(key.key)}):
-            exchange = complete(1 + length % 2, method, key.k, key.h)
+            exchange = complete(1 + length % 2, method, key.k, key.h, key.identifier)
             yield bytes([key.letter, length]) + exchange, f'{key.key[:length].hex()}\n'
 
 

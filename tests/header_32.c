@@ -56,14 +56,18 @@ FIELD(castulfrisa_progress, stage, 0, 1);
 FIELD(castulfrisa_progress, fail, 1, 1);
 FIELD(castulfrisa_progress, role, 2, 1);
 FIELD(castulfrisa_progress, method, 3, 1);
+RUN(castulfrisa_session, 2);
+FIELD(castulfrisa_session, id_len, 0, 1);
+FIELD(castulfrisa_session, completed, 1, 1);
 
 /* The sizes of buffers are those of what goes into them: a message's number, strings, and the hash input of method 8. */
 #define STRING(body) (4 + (body))
 HOLDS(CASTULFRISA_INIT == 1 + STRING(CASTULFRISA_VALUE_MOST));
 HOLDS(CASTULFRISA_REPLY == 1 + 2 * STRING(CASTULFRISA_BLOB_MOST) + STRING(CASTULFRISA_VALUE_MOST));
 HOLDS(CASTULFRISA_K == STRING(1 + CASTULFRISA_X_MOST));
-/* mark, stage, fail number, role and method, seven lengths of two bytes, K and H */
-HOLDS(CASTULFRISA_EXCHANGE == 5 + 2 * 7 + CASTULFRISA_K + CASTULFRISA_H_SIZE);
+/* mark, stage, fail number, role and method, seven lengths of two bytes, K and H, and of the session the identifier's length, how many exchanges
+   were completed, and the identifier */
+HOLDS(CASTULFRISA_EXCHANGE == 5 + 2 * 7 + CASTULFRISA_K + CASTULFRISA_H_SIZE + 2 + 8 + CASTULFRISA_H_SIZE);
 /* A to F */
 HOLDS(CASTULFRISA_IV_C2S == 'A' && CASTULFRISA_IV_S2C == 'B' && CASTULFRISA_CIPHER_KEY_C2S == 'C' && CASTULFRISA_CIPHER_KEY_S2C == 'D'
       && CASTULFRISA_MAC_KEY_C2S == 'E' && CASTULFRISA_MAC_KEY_S2C == 'F');

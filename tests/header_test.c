@@ -592,7 +592,7 @@ static void hashes(void)
 
 static void sentences(void)
 {
-    static const uint64_t numbers[] = {0, 1, 2, 3, 4, 5, 10, 11, 12, 13, 14, 15, 16, 17, 18, 19, 20, 21, 22};
+    static const uint64_t numbers[] = {0, 1, 2, 3, 4, 5, 10, 11, 12, 13, 14, 15, 16, 17, 18, 19, 20, 21, 22, 23};
     const char *other = castulfrisa_text(6);
     size_t i, j;
     uint64_t n;

@@ -14,6 +14,7 @@ void ignore(uint8_t *p, uint64_t n, uint64_t *count, castulfrisa_part *part, cas
     castulfrisa_reply reply;
     castulfrisa_signed counts;
     castulfrisa_progress told;
+    castulfrisa_session session;
 
     castulfrisa_read_string(p, n, parts);
     castulfrisa_write_string(p, n, p, n, count);
@@ -33,11 +34,13 @@ void ignore(uint8_t *p, uint64_t n, uint64_t *count, castulfrisa_part *part, cas
     castulfrisa_take_secret(p, n, p, n, n, n, p, n, n, p, n, p, n, p, n, count, p);
     castulfrisa_sign(p, n, p, n, p, n, p, n, p, n, &counts);
     castulfrisa_verdict(p, n, p, n, n, n, p, n, count);
+    castulfrisa_again(p, n, p, n, n, p, n, p, n);
     castulfrisa_init_c(p, n, p, n, p, n, part);
     castulfrisa_reply_host_key(p, n, p, n, p, n, part);
     castulfrisa_reply_s(p, n, p, n, p, n, part);
     castulfrisa_reply_signature(p, n, p, n, p, n, part);
     castulfrisa_state(p, n, &told);
+    castulfrisa_session_id(p, n, &session, p);
     castulfrisa_derive(p, n, n, n, p, n);
     castulfrisa_hash_start(p, n, n);
     castulfrisa_hash_feed(p, n, p, n);

@@ -96,11 +96,12 @@ static size_t copies(const uint8_t *stack, size_t *bytes)
 
 /* ---- what was seen of each call, over all methods */
 
-enum { SECRET_CLIENT, SECRET_SERVER, SIGN, VERDICT, VERDICT_NO, DERIVE, NOT_DUE, STATE, FEED, FINISH, SHALLOW, DEEP, CALLS };
+enum { SECRET_CLIENT, SECRET_SERVER, SIGN, VERDICT, VERDICT_NO, DERIVE, AGAIN, SESSION_ID, NOT_DUE, STATE, FEED, FINISH, SHALLOW, DEEP, CALLS };
 static struct { const char *name; size_t copies, bytes, depth, wiped; } seen[CALLS] = {
     {"take_secret, client", 0, 0, 0, 0}, {"take_secret, server", 0, 0, 0, 0}, {"sign", 0, 0, 0, 0}, {"verdict", 0, 0, 0, 0},
-    {"verdict, refused", 0, 0, 0, 0}, {"derive", 0, 0, 0, 0}, {"a step not due", 0, 0, 0, 0}, {"state", 0, 0, 0, 0},
-    {"hash_feed", 0, 0, 0, 0}, {"hash_finish", 0, 0, 0, 0}, {"planted", 0, 0, 0, 0}, {"planted too deep", 0, 0, 0, 0}};
+    {"verdict, refused", 0, 0, 0, 0}, {"derive", 0, 0, 0, 0}, {"again", 0, 0, 0, 0}, {"session_id", 0, 0, 0, 0},
+    {"a step not due", 0, 0, 0, 0}, {"state", 0, 0, 0, 0}, {"hash_feed", 0, 0, 0, 0}, {"hash_finish", 0, 0, 0, 0}, {"planted", 0, 0, 0, 0},
+    {"planted too deep", 0, 0, 0, 0}};
 
 static size_t larger(size_t a, size_t b) { return a > b ? a : b; }
 
@@ -136,6 +137,9 @@ static uint8_t hash[CASTULFRISA_HASH_SIZE];
 static uint64_t payload_len, count;
 static castulfrisa_signed counts;
 static castulfrisa_progress told;
+static castulfrisa_session session;
+static uint8_t id[CASTULFRISA_H_SIZE];
+static const uint8_t kexinit[] = {20};
 
 static NOINLINE void secret(int call)
 {
@@ -192,6 +196,14 @@ static NOINLINE void derive(void)
     OBSERVE(DERIVE, castulfrisa_derive(exchange, EX, CASTULFRISA_CIPHER_KEY_C2S, sizeof key, key, sizeof key) == 0);
 }
 
+/* Of the complete exchange, whose keys were derived. The identifier is H. */
+static NOINLINE void session_id(void) { OBSERVE(SESSION_ID, castulfrisa_session_id(exchange, EX, &session, id) == 0); }
+
+static NOINLINE void again(void)
+{
+    OBSERVE(AGAIN, castulfrisa_again(exchange, EX, room, ROOM, method, kexinit, sizeof kexinit, kexinit, sizeof kexinit) == 0);
+}
+
 static NOINLINE void not_due(void)
 {
     OBSERVE(NOT_DUE, castulfrisa_own_c(exchange, EX, room, ROOM, value, z.c_len, out, sizeof out, &count) == CASTULFRISA_NOT_DUE);
@@ -224,10 +236,10 @@ static uint64_t put(uint8_t *at, uint64_t len)
 
 static void started(uint64_t role)
 {
-    static const uint8_t v[] = "v", i[] = {20};
+    static const uint8_t v[] = "v";
     castulfrisa_part c;
     castulfrisa_reply parts;
-    int good = castulfrisa_start(exchange, EX, role, method, v, 1, v, 1, i, 1, i, 1, room, ROOM) == 0;
+    int good = castulfrisa_start(exchange, EX, role, method, v, 1, v, 1, kexinit, sizeof kexinit, kexinit, sizeof kexinit, room, ROOM) == 0;
     h_len = key_len = 0;
     if (role == CASTULFRISA_CLIENT) {
         payload[0] = 31;
@@ -265,10 +277,13 @@ int main(void)
         verdict_no();
         verdict();
         derive();
+        session_id();
+        again();
         started(CASTULFRISA_SERVER);
         secret(SECRET_SERVER);
         sign();
         derive();
+        again();
         planted();
         planted_too_deep();
     }

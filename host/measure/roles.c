@@ -1,5 +1,5 @@
-/* One exchange with every field at its largest and a key, as client (ROLE 1), as server (2) or as both (3), or no more than a hash (4), on
-   a stack that was painted before: prints how deep each entry went. Its link map tells what of the library a host of that role carries. */
+/* One exchange with every field at its largest, a key and the next beginning, as client (ROLE 1), as server (2) or as both (3), or no more than a
+   hash (4), on a stack that was painted before: prints how deep each entry went. Its link map tells what of the library a host of that role carries. */
 #define _XOPEN_SOURCE 700
 #include "castulfrisa.h"
 #include <pthread.h>
@@ -64,6 +64,17 @@ static void take_secret(void)
 static void derive(void)
 {
     number = castulfrisa_derive(exchange, sizeof exchange, CASTULFRISA_CIPHER_KEY_C2S, sizeof key, key, sizeof key);
+}
+
+static void session_id(void)
+{
+    castulfrisa_session told;
+    number = castulfrisa_session_id(exchange, sizeof exchange, &told, h);
+}
+
+static void again(void)
+{
+    number = castulfrisa_again(EXCHANGE, METHOD, kexinit, sizeof kexinit, kexinit, sizeof kexinit);
 }
 
 static void wipe(void)
@@ -196,6 +207,8 @@ int main(void)
     tell("take_secret", take_secret, base);
     tell("verdict", verdict, base);
     tell("derive", derive, base);
+    tell("session_id", session_id, base);
+    tell("again", again, base);
 #endif
 #if ROLE & 2
     tell("start", start_server, base);
@@ -203,6 +216,8 @@ int main(void)
     tell("take_secret", take_secret, base);
     tell("sign", sign, base);
     tell("derive", derive, base);
+    tell("session_id", session_id, base);
+    tell("again", again, base);
 #endif
 #if ROLE & 3
     tell("wipe", wipe, base);
