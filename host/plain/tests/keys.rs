@@ -122,7 +122,7 @@ fn published_keys_of_a_record() {
             }
         }
     }
-    assert_eq!((of_h, of_length, of_another), (2 * 56, 2 * 30, 2 * 45));
+    assert_eq!((of_h, of_length, of_another), (2 * 56, 2 * 30, 2 * 48));
 }
 
 #[test]
