@@ -1,16 +1,18 @@
 //! The plain implementation behind the boundary: document 01's answer to a call, told as the header says.
-use crate::calls::Call;
-use crate::stored::{bytes_of, exchange_of, forge, numbers_of, EXCHANGE};
+use crate::calls::{self, Call};
+use crate::random::Random;
+use crate::stored::{bytes_of, exchange_of, forge, numbers_of, put_session, EXCHANGE};
 use plain::{Answer, Classical, Exchange, Kem, Part, H};
 
 /// What a call gave, on either side: its number, what it told through lent numbers, what the calls of their own for the four
-/// parts of a payload gave (number, start and length of each), and the state after it.
+/// parts of a payload gave (number, start and length of each), and the state and the session after it.
 #[derive(Clone, Copy, Debug, Default, PartialEq)]
 pub struct Given {
     pub number: u64,
     pub told: [u64; 6],
     pub parts: [[u64; 3]; 4],
     pub state: [u64; 5],
+    pub session: [u64; 3],
 }
 
 /// What is lent on the plain implementation's side.
@@ -21,6 +23,7 @@ pub struct Side {
     pub out: Vec<u8>,
     pub k_out: Vec<u8>,
     pub h: Vec<u8>,
+    pub id: Vec<u8>,
     /// A room to try a step in.
     tried: Vec<u8>,
 }
@@ -70,6 +73,7 @@ impl Side {
             Call::Room(f) => self.room = f.bytes(),
             Call::Poke(at, bytes) => self.room[*at..at + bytes.len()].copy_from_slice(bytes),
             Call::Forge(field, to) => forge(&mut self.exchange, *field, *to),
+            Call::Session(session) => put_session(&mut self.exchange, session),
             Call::Lend(bytes) => self.exchange.clone_from(bytes),
             Call::Record(e) => self.exchange = bytes_of(e).to_vec(),
             Call::OwnC { out, .. } | Call::Derive { key: out, .. } => self.out = out.bytes(),
@@ -92,6 +96,35 @@ impl Side {
         })
     }
 
+    /// The identifier's length and the count, behind the number of asking for them, and the identifier: nothing where the length does
+    /// not go with the count, at whatever stage.
+    fn session(&mut self) -> [u64; 3] {
+        let told = exchange_of(&self.exchange).map(|e| e.session).filter(|s| match s.completed {
+            0 => s.id_len == 0,
+            _ => matches!(s.id_len, 32 | 48 | 64),
+        });
+        let session = told.unwrap_or_default();
+        self.id.clear();
+        self.id.extend_from_slice(&session.id);
+        [told.is_none().into(), session.id_len as u64, session.completed]
+    }
+
+    /// The next call of a list. A careful host's is mostly one that is accepted, as a try on another side shows.
+    pub fn next(&self, r: &mut Random, kept: usize, careful: bool, other: &mut Side) -> Call {
+        for _ in 0..3 {
+            let call = calls::next(r, &self.exchange, self.room.len(), kept, careful);
+            if !careful || r.once_in(24) {
+                return call;
+            }
+            other.exchange.clone_from(&self.exchange);
+            other.room.clone_from(&self.room);
+            if other.call(&call).number == 0 {
+                return call;
+            }
+        }
+        calls::next(r, &self.exchange, self.room.len(), kept, careful)
+    }
+
     /// What INIT's and REPLY's steps would answer, tried in a copy of the room, and the parts that they would tell.
     fn parts(&mut self, e: &Exchange, payload: &[u8]) -> [[u64; 3]; 4] {
         let mut try_step = |step: fn(Exchange, &mut [u8], &[u8]) -> Answer| {
@@ -110,7 +143,7 @@ impl Side {
         self.before(call);
         let mut given = Given::default();
         match call {
-            Call::Room(_) | Call::Poke(..) | Call::Forge(..) | Call::Lend(_) | Call::Record(_) | Call::Old { .. } => {}
+            Call::Room(_) | Call::Poke(..) | Call::Forge(..) | Call::Session(_) | Call::Lend(_) | Call::Record(_) | Call::Old { .. } => {}
             Call::Start { .. } if self.exchange.len() != EXCHANGE => given.number = 1,
             Call::Start { role, method, vc, vs, ic, is } => {
                 let a = plain::start(byte(*role), byte(*method), vc, vs, ic, is, &mut self.room);
@@ -129,6 +162,7 @@ impl Side {
             },
         }
         given.state = self.state();
+        given.session = self.session();
         given
     }
 
@@ -157,6 +191,7 @@ impl Side {
             }
             Call::Sign { signature, .. } => plain::sign(e, room, signature, &mut self.out, &mut self.k_out),
             Call::Verdict { signature, host_key, .. } => plain::verdict(e, room, *signature == 1, *host_key == 1, &mut self.k_out),
+            Call::Again { method, ic, is } => plain::again(e, byte(*method), ic, is, room),
             _ => unreachable!("no step"),
         };
         given.number = a.number.into();
