@@ -63,6 +63,11 @@ impl Side {
         Side { exchange: bytes_of(&Exchange::default()).to_vec(), ..Side::default() }
     }
 
+    /// Copies of an exchange's bytes and of a room.
+    pub fn at(exchange: &[u8], room: &[u8]) -> Side {
+        Side { exchange: exchange.to_vec(), room: room.to_vec(), ..Side::default() }
+    }
+
     /// Lends the outputs of a call afresh, and does what is no call of the core: a room or an exchange lent, or somebody's hand
     /// in them.
     fn before(&mut self, call: &Call) {
@@ -89,8 +94,8 @@ impl Side {
     }
 
     /// Stage, fail number, role and method, behind the number of asking for them.
-    fn state(&self) -> [u64; 5] {
-        exchange_of(&self.exchange).map_or([1, 0, 0, 0, 0], |e| {
+    fn state(&self, e: Option<&Exchange>) -> [u64; 5] {
+        e.map_or([1, 0, 0, 0, 0], |e| {
             let (stage, fail) = numbers_of(e.stage);
             [0, stage.into(), fail.into(), e.role.into(), e.method.into()]
         })
@@ -98,8 +103,8 @@ impl Side {
 
     /// The identifier's length and the count, behind the number of asking for them, and the identifier: nothing where the length does
     /// not go with the count, at whatever stage.
-    fn session(&mut self) -> [u64; 3] {
-        let told = exchange_of(&self.exchange).map(|e| e.session).filter(|s| match s.completed {
+    fn session(&mut self, e: Option<&Exchange>) -> [u64; 3] {
+        let told = e.map(|e| e.session).filter(|s| match s.completed {
             0 => s.id_len == 0,
             _ => matches!(s.id_len, 32 | 48 | 64),
         });
@@ -118,7 +123,7 @@ impl Side {
             }
             other.exchange.clone_from(&self.exchange);
             other.room.clone_from(&self.room);
-            if other.call(&call).number == 0 {
+            if other.answer(&call).number == 0 {
                 return call;
             }
         }
@@ -137,9 +142,20 @@ impl Side {
         [(init, c), (reply, k_s), (reply, s), (reply, signature)].map(|(number, p)| [number, p.start as u64, p.len as u64])
     }
 
-    /// The call on the plain implementation. Bytes that no exchange has are answered 1 and stay; the calls for parts are made
-    /// with any payload.
+    /// The call on the plain implementation, with the calls for parts, which are made with any payload, and what is told after it.
     pub fn call(&mut self, call: &Call) -> Given {
+        let parts = match (call, exchange_of(&self.exchange)) {
+            (Call::Init(p) | Call::Reply(p), Some(e)) => self.parts(&e, p),
+            (Call::Init(_) | Call::Reply(_), None) => [[1, 0, 0]; 4],
+            _ => Default::default(),
+        };
+        let given = self.answer(call);
+        let e = exchange_of(&self.exchange);
+        Given { parts, state: self.state(e.as_ref()), session: self.session(e.as_ref()), ..given }
+    }
+
+    /// The call itself. Bytes that no exchange has are answered 1 and stay.
+    fn answer(&mut self, call: &Call) -> Given {
         self.before(call);
         let mut given = Given::default();
         match call {
@@ -153,24 +169,14 @@ impl Side {
             Call::Derive { letter, length, .. } => given.number = derived(&self.exchange, *letter, *length, &mut self.out),
             _ => match exchange_of(&self.exchange) {
                 Some(e) => given = self.step(e, call),
-                None => {
-                    given.number = 1;
-                    if matches!(call, Call::Init(_) | Call::Reply(_)) {
-                        given.parts = [[1, 0, 0]; 4];
-                    }
-                }
+                None => given.number = 1,
             },
         }
-        given.state = self.state();
-        given.session = self.session();
         given
     }
 
     fn step(&mut self, e: Exchange, call: &Call) -> Given {
         let mut given = Given::default();
-        if let Call::Init(p) | Call::Reply(p) = call {
-            given.parts = self.parts(&e, p);
-        }
         let room = &mut self.room;
         let mut parts = [Part::default(); 3];
         let a = match call {
