@@ -42,9 +42,11 @@ def published():
         yield from keys
 
 
-def of_records():
-    """Those whose identifier is H, with each method that has their hash and takes their K."""
+def of_records(later=False):
+    """Those whose identifier is H, with each method that has their hash and takes their K; those of a later exchange too, whose identifier is
+    another digest."""
     for key in published():
         for method, row in METHODS.items():
-            if key.identifier == key.h and key.kind == row.kind and 4 + row.least <= len(key.k) <= 4 + row.most:
+            kept = key.identifier == key.h or later and len(key.identifier) in KINDS.values()
+            if kept and key.kind == row.kind and 4 + row.least <= len(key.k) <= 4 + row.most:
                 yield method, key
