@@ -565,7 +565,8 @@ class Session:
         """Keys by this exchange's K, H and hash, and the session's identifier."""
         id_len = len(self.identifier) if self.id_len is None else self.id_len
         for letter in letters:
-            key = derived(METHODS[self.method].kind, self.k, self.h, letter, self.identifier[:id_len], length)
+            kind = METHODS[self.method].kind
+            key = derived(kind, self.k, self.h[:kind], letter, self.identifier[:id_len], length)
             self.say(f'derive {letter} {length} 55*{length + 1}', f'0 {out(lent(key, length + 1))}')
 
     def no_key(self):
@@ -697,8 +698,29 @@ def forged_sessions():
         yield s.said
 
 
+def as_they_stand():
+    """The first identifier is all 64 bytes of H as somebody left them, whatever stood in its place; a later exchange's H is not looked at."""
+    of = dict(reversed(list(captures())))
+    for role, methods in ((1, (5, 1)), (2, (1, 3))):
+        s = Session(role)
+        for n, method in enumerate(methods, 1):
+            s.begin(method, of[method])
+            *early, (line, answer, (stage, names, k, _)) = s.steps()
+            for step in early:
+                s.step(*step)
+            s.h = bytes(range(n, n + 64))
+            s.say(f'put h {h(s.h)}', '0')
+            if n == 1:
+                s.identifier, s.id_len = b'\xee' * 64, 0
+                s.say(f'put sid {h(s.identifier)}', '0')
+                s.id_len = METHODS[method].kind
+            s.step(line, answer, (stage, names, k, s.h))
+            s.keys()
+        yield s.said
+
+
 def sessions():
-    for said in [*rekeyed(), *forged_sessions()]:
+    for said in [*rekeyed(), *forged_sessions(), *as_they_stand()]:
         yield [list(words) for words in zip(*said)]
 
 

@@ -4,8 +4,8 @@ use core::fmt;
 /// Why a call was refused; `number` is the core's.
 #[derive(Clone, Copy, Debug, PartialEq, Eq, Hash)]
 pub enum Refusal {
-    /// 1: the call is not due: a step out of turn, also when the exchange is complete or failed, or a key of one that is not complete; or
-    /// the bytes lent for it are none.
+    /// 1: the call is not due: a step out of turn, also when the exchange is complete or failed, or a key or a new beginning of one that is
+    /// not complete; or the bytes lent for it are none.
     NotDue,
     /// 2: method not 1 to 9, or role neither client nor server.
     NoMethod,
