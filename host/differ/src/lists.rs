@@ -327,9 +327,9 @@ const SIGHTS: [(Sight, &str); 49] = [
     (Sight::FullWritten, "not begun again, 23, where somebody wrote the count"),
     (Sight::FullCounted, "where a last step counted up to it"),
     (Sight::FullMadeUp, "where no steps made the exchange"),
-    (Sight::FullMethod, "2 where it would be 23"),
-    (Sight::FullRoom, "3"),
-    (Sight::FullField, "4"),
+    (Sight::FullMethod, "answered 2 at that count"),
+    (Sight::FullRoom, "answered 3"),
+    (Sight::FullField, "answered 4"),
     (Sight::AboveMost, "calls that were due but for a count above the most, 1"),
     (Sight::MostEarly, "for the most while not complete"),
     (Sight::NoneLate, "for 0 while complete"),
@@ -546,9 +546,12 @@ fn differs(what: &str, have: &[u8], want: &[u8]) -> Option<String> {
 /// A call on both; what it gave, or the first difference, told.
 pub fn both(core: &mut Lent, model: &mut Side, call: &Call, word: u64, tally: &mut Tally) -> Result<Given, String> {
     let parts = core.parts(call, word, tally);
-    // the calls for parts have changed nothing, and the model has not begun
-    let told = differs("exchange of a call for a part", core.exchange.bytes(), &model.exchange)
-        .or_else(|| differs("room of a call for a part", core.room.bytes(), &model.room));
+    // the calls for parts, where there were any, have changed nothing, and the model has not begun
+    let told = match call {
+        Call::Init(_) | Call::Reply(_) => differs("exchange of a call for a part", core.exchange.bytes(), &model.exchange)
+            .or_else(|| differs("room of a call for a part", core.room.bytes(), &model.room)),
+        _ => None,
+    };
     let want = model.call(call);
     let have = Given { parts, ..core.call(call, word, tally) };
     if let Some(name) = entry(call) {
