@@ -270,6 +270,7 @@ pub enum Sight {
     AgainUnfit,
     WideAgain,
     FaultLater,
+    AfterFault,
     KeyLater,
     KeyIdentifier,
     FullWritten,
@@ -285,7 +286,7 @@ pub enum Sight {
     NotTold,
 }
 
-const SIGHTS: [(Sight, &str); 49] = [
+const SIGHTS: [(Sight, &str); 50] = [
     (Sight::Call, "calls"),
     (Sight::Complete, "exchanges complete"),
     (Sight::Fault, "peer faults"),
@@ -322,8 +323,9 @@ const SIGHTS: [(Sight, &str); 49] = [
     (Sight::AgainUnfit, "not begun again, complete but not fitting, 1"),
     (Sight::WideAgain, "methods above 255 to begin again in"),
     (Sight::FaultLater, "peer faults in a later exchange"),
+    (Sight::AfterFault, "calls behind one, 1"),
     (Sight::KeyLater, "keys of a later exchange"),
-    (Sight::KeyIdentifier, "keys with an identifier of another length than the running method's digest"),
+    (Sight::KeyIdentifier, "keys, of exchanges that steps made, with an identifier of another length than the running method's digest"),
     (Sight::FullWritten, "not begun again, 23, where somebody wrote the count"),
     (Sight::FullCounted, "where a last step counted up to it"),
     (Sight::FullMadeUp, "where no steps made the exchange"),
@@ -416,10 +418,13 @@ impl Seen {
             }
             Call::Derive { .. } => {
                 self.add(Sight::KeyLater, number == 0 && session.completed > 1);
-                self.add(Sight::KeyIdentifier, number == 0 && Some(session.id_len) != digest(before.method));
+                let other = Some(session.id_len) != digest(before.method);
+                self.add(Sight::KeyIdentifier, number == 0 && other && !self.made_up);
             }
             _ => self.add(Sight::FaultLater, (10..=18).contains(&number) && session.completed > 0),
         }
+        let failed = matches!(before.stage, Stage::Failed(_)) && session.completed > 0;
+        self.add(Sight::AfterFault, failed && number == 1);
         let no_length = if session.completed == 0 { session.id_len != 0 } else { !calls::DIGESTS.contains(&session.id_len) };
         let why = match session.completed {
             _ if no_length => Sight::NoLength,
