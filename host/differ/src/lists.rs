@@ -380,11 +380,15 @@ pub struct Seen {
 
 /// Whether a call is one that an exchange of this stage and role waits for.
 fn is_due(call: &Call, e: &Exchange) -> bool {
-    match (call, e.stage, e.role) {
-        (Call::OwnC { .. }, Stage::Started, 1) | (Call::Init(_), Stage::Started, 2) | (Call::Reply(_), Stage::OwnC, 1) => true,
-        (Call::Secret { .. }, Stage::Reply, 1) | (Call::Secret { .. }, Stage::Init, 2) => true,
-        (Call::Verdict { .. }, Stage::Secret, 1) | (Call::Sign { .. }, Stage::Secret, 2) => true,
-        (Call::Again { .. } | Call::Derive { .. }, Stage::Complete, 1 | 2) => true,
+    let waits = |stage, role| e.stage == stage && e.role == role;
+    match call {
+        Call::OwnC { .. } => waits(Stage::Started, 1),
+        Call::Init(_) => waits(Stage::Started, 2),
+        Call::Reply(_) => waits(Stage::OwnC, 1),
+        Call::Secret { .. } => waits(Stage::Reply, 1) || waits(Stage::Init, 2),
+        Call::Verdict { .. } => waits(Stage::Secret, 1),
+        Call::Sign { .. } => waits(Stage::Secret, 2),
+        Call::Again { .. } | Call::Derive { .. } => waits(Stage::Complete, 1) || waits(Stage::Complete, 2),
         _ => false,
     }
 }
