@@ -540,9 +540,9 @@ fn other_bytes(r: &mut Random, now: &[u8]) -> Call {
 
 /// How many calls a list has, and whether its host is careful: those are long, and seldom does anybody interfere.
 pub fn length(r: &mut Random) -> (usize, bool) {
-    match r.once_in(32) {
-        true => (r.range(14, 40), true),
-        false => (r.range(2, 12), false),
+    match r.once_in(40) {
+        true => (r.range(14, 32), true),
+        false => (r.range(2, 11), false),
     }
 }
 
