@@ -13,14 +13,15 @@
 
 #define MOST_TOKENS 15 /* wkex: its name, the cookie, ten lists, boolean, reserved number, output */
 #define LENGTHS 7      /* the recorded lengths, l0 to l6 */
+#define SLEN LENGTHS   /* behind them the session identifier's, slen */
 
 /* The bytes of an exchange. A host has no business with them; here they are forged and shown. */
 enum {
     MARK_AT = 0, STAGE_AT = 1, FAIL_AT = 2, ROLE_AT = 3, METHOD_AT = 4, LENGTHS_AT = 5, K_AT = LENGTHS_AT + 2 * LENGTHS,
-    H_AT = K_AT + CASTULFRISA_K
+    H_AT = K_AT + CASTULFRISA_K, SLEN_AT = H_AT + CASTULFRISA_H_SIZE, COUNT_AT = SLEN_AT + 2, SID_AT = COUNT_AT + 8
 };
-_Static_assert(H_AT + CASTULFRISA_H_SIZE == CASTULFRISA_EXCHANGE, "the exchange's bytes");
-#define MARK 2                 /* of this layout: bytes with another mark are no exchange's */
+_Static_assert(SID_AT + CASTULFRISA_H_SIZE == CASTULFRISA_EXCHANGE, "the exchange's bytes");
+#define MARK 3                 /* of this layout: bytes with another mark are no exchange's */
 #define LENGTH_MOST UINT16_MAX /* the most that a recorded length's two bytes hold */
 
 /* Those of a hash, likewise: its kind, and two numbers of eight bytes, the bytes fed in all and those that wait. */
@@ -38,7 +39,7 @@ static size_t lents;
 
 static uint8_t exchange[CASTULFRISA_EXCHANGE]; /* its fail number is 0 unless it failed, as in every answer line */
 static uint8_t fail;                           /* what `set fail` left for a stage that is set to failed later */
-static uint64_t wide[LENGTHS];                 /* a length that was set above what its bytes hold; 0 where they hold it */
+static uint64_t wide[LENGTHS + 1];             /* a length that was set above what its bytes hold; 0 where they hold it */
 static bytes room;
 static bytes view; /* the payload that open was given, and where next stands in it */
 static castulfrisa_cursor cursor;
@@ -219,18 +220,33 @@ static void put_written(uint64_t n, uint64_t count, bytes out)
 
 /* ---- the exchange's bytes */
 
+static uint8_t *length_bytes(size_t i) { return exchange + (i == SLEN ? SLEN_AT : LENGTHS_AT + 2 * i); }
+
 static uint64_t length(size_t i)
 {
-    const uint8_t *at = exchange + LENGTHS_AT + 2 * i;
+    const uint8_t *at = length_bytes(i);
     return wide[i] > 0 ? wide[i] : (uint64_t)at[0] << 8 | at[1];
 }
 
 static void set_length(size_t i, uint64_t n)
 {
-    uint8_t *at = exchange + LENGTHS_AT + 2 * i;
+    uint8_t *at = length_bytes(i);
     wide[i] = n > LENGTH_MOST ? n : 0;
     at[0] = (uint8_t)(n >> 8);
     at[1] = (uint8_t)n;
+}
+
+/* A number of eight bytes, of the exchange or of the hash. */
+static uint64_t eight(const uint8_t *at)
+{
+    uint64_t n = 0;
+    for (size_t i = 0; i < 8; i++) n = n << 8 | at[i];
+    return n;
+}
+
+static void set_eight(uint8_t *at, uint64_t n)
+{
+    for (size_t i = 8; i > 0; i--, n >>= 8) at[i - 1] = (uint8_t)n;
 }
 
 /* What a call is handed: the exchange; but where a length is above what its bytes hold, so that no exchange has it, other bytes that no
@@ -238,7 +254,7 @@ static void set_length(size_t i, uint64_t n)
 static uint8_t *handed(void)
 {
     static uint8_t none[CASTULFRISA_EXCHANGE];
-    for (size_t i = 0; i < LENGTHS; i++)
+    for (size_t i = 0; i < COUNT(wide); i++)
         if (wide[i] > 0) {
             memcpy(none, exchange, sizeof none);
             none[MARK_AT] = MARK - 1;
@@ -247,8 +263,23 @@ static uint8_t *handed(void)
     return exchange;
 }
 
+/* What the library tells of the session is in the exchange's bytes, or nothing. */
+static void told_as_kept(void)
+{
+    static const castulfrisa_session none;
+    static const uint8_t zeros[CASTULFRISA_H_SIZE];
+    LEND(castulfrisa_session, told);
+    uint8_t id[CASTULFRISA_H_SIZE];
+    memset(id, 0xa5, sizeof id);
+    bool tells = castulfrisa_session_id(handed(), CASTULFRISA_EXCHANGE, &told, id) == 0;
+    castulfrisa_session kept = tells ? (castulfrisa_session){length(SLEN), eight(exchange + COUNT_AT)} : none;
+    if (told.id_len != kept.id_len || told.completed != kept.completed || memcmp(id, tells ? exchange + SID_AT : zeros, sizeof id) != 0)
+        bad("the library's session is not in the exchange's bytes");
+}
+
 static void put_exchange(void)
 {
+    told_as_kept();
     LEND(castulfrisa_progress, told);
     /* what is kept is always an exchange's, and the library reads in it what is shown */
     if (castulfrisa_state(exchange, sizeof exchange, &told) != 0 || told.stage != exchange[STAGE_AT] || told.fail != exchange[FAIL_AT]
@@ -260,7 +291,9 @@ static void put_exchange(void)
     put_digest(exchange + K_AT, CASTULFRISA_K);
     fputs(" h=", stdout);
     put_digest(exchange + H_AT, CASTULFRISA_H_SIZE);
-    fputs(" room=", stdout);
+    printf(" sid=%" PRIu64 ":", length(SLEN));
+    put_digest(exchange + SID_AT, CASTULFRISA_H_SIZE);
+    printf(" n=%" PRIu64 " room=", eight(exchange + COUNT_AT));
     put_digest(room.at, room.len);
 }
 
@@ -386,22 +419,10 @@ static bytes lend_h(void)
     return h;
 }
 
-static uint64_t hash_number(size_t at)
-{
-    uint64_t n = 0;
-    for (size_t i = 0; i < 8; i++) n = n << 8 | hash[at + i];
-    return n;
-}
-
-static void set_hash_number(size_t at, uint64_t n)
-{
-    for (size_t i = 8; i > 0; i--, n >>= 8) hash[at + i - 1] = (uint8_t)n;
-}
-
 static void put_hash(uint64_t n)
 {
     put_number(n);
-    printf(" %u.%" PRIu64 ".%" PRIu64, hash[KIND_AT], hash_number(TOTAL_AT), hash_number(HELD_AT));
+    printf(" %u.%" PRIu64 ".%" PRIu64, hash[KIND_AT], eight(hash + TOTAL_AT), eight(hash + HELD_AT));
 }
 
 static void call_sha(char **t) { put_hash(castulfrisa_hash_start(hash, sizeof hash, byte(t[1]))); }
@@ -423,8 +444,8 @@ static void call_finish(char **t)
 static void call_shaset(char **t)
 {
     if (strcmp(t[1], "kind") == 0) hash[KIND_AT] = byte(t[2]);
-    else if (strcmp(t[1], "total") == 0) set_hash_number(TOTAL_AT, number(t[2], UINT64_MAX));
-    else if (strcmp(t[1], "tail") == 0) set_hash_number(HELD_AT, number(t[2], UINT64_MAX));
+    else if (strcmp(t[1], "total") == 0) set_eight(hash + TOTAL_AT, number(t[2], UINT64_MAX));
+    else if (strcmp(t[1], "tail") == 0) set_eight(hash + HELD_AT, number(t[2], UINT64_MAX));
     else bad("unknown field");
     put_hash(0);
 }
@@ -465,9 +486,12 @@ static void call_set(char **t)
     else if (strcmp(field, "method") == 0) exchange[METHOD_AT] = byte(value);
     else if (strcmp(field, "stage") == 0) exchange[STAGE_AT] = (uint8_t)word(value, stages, COUNT(stages), "unknown stage");
     else if (strcmp(field, "fail") == 0) fail = byte(value);
+    else if (strcmp(field, "slen") == 0) set_length(SLEN, number(value, UINT64_MAX));
+    else if (strcmp(field, "count") == 0) set_eight(exchange + COUNT_AT, number(value, UINT64_MAX));
     else if (field[0] == 'l') set_length(place(field + 1, LENGTHS), number(value, UINT64_MAX));
     else if (field[0] == 'k') exchange[K_AT + place(field + 1, CASTULFRISA_K)] = byte(value);
     else if (field[0] == 'h') exchange[H_AT + place(field + 1, CASTULFRISA_H_SIZE)] = byte(value);
+    else if (field[0] == 's') exchange[SID_AT + place(field + 1, CASTULFRISA_H_SIZE)] = byte(value);
     else bad("unknown field");
     exchange[FAIL_AT] = exchange[STAGE_AT] == CASTULFRISA_FAILED ? fail : 0;
     put_number(0);
@@ -475,8 +499,9 @@ static void call_set(char **t)
 
 static void call_put(char **t)
 {
-    static const char *const fields[] = {"k", "h"};
-    static const struct { size_t at, len; } places[] = {{K_AT, CASTULFRISA_K}, {H_AT, CASTULFRISA_H_SIZE}};
+    static const char *const fields[] = {"k", "h", "sid"};
+    static const struct { size_t at, len; } places[] = {
+        {K_AT, CASTULFRISA_K}, {H_AT, CASTULFRISA_H_SIZE}, {SID_AT, CASTULFRISA_H_SIZE}};
     size_t field = word(t[1], fields, COUNT(fields), "unknown field");
     bytes b = lend(t[2]);
     if (b.len > places[field].len) bad("put past the field's end");
@@ -594,6 +619,15 @@ static void call_verdict(char **t)
     put_out(k_out);
 }
 
+/* ---- the kept exchange again, in the kept room */
+
+static void call_again(char **t)
+{
+    uint64_t method = byte(t[1]);
+    bytes ic = lend(t[2]), is = lend(t[3]);
+    put_step(castulfrisa_again(handed(), CASTULFRISA_EXCHANGE, room.at, room.len, method, ic.at, ic.len, is.at, is.len));
+}
+
 /* ---- keys, by a call that is no step */
 
 static void call_derive(char **t)
@@ -637,6 +671,7 @@ static const struct call {
     {"secret", 7, call_secret, true},
     {"sign", 4, call_sign, true},
     {"verdict", 4, call_verdict, true},
+    {"again", 4, call_again, true},
     {"derive", 4, call_derive, true},
 };
 

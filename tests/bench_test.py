@@ -1,9 +1,11 @@
 #!/usr/bin/env python3
-"""The bench as a program: document 01's examples, hashes, keys and the captured exchanges through it, each answer computed here, with Python's
-own SHA-2; published keys; the landings' examples (tests/examples); and what it does with lines that are none.
+"""The bench as a program: document 01's examples, hashes, keys and the captured exchanges through it, one by one and one behind another in a
+session, each answer computed here, with Python's own SHA-2; published keys; the landings' examples (tests/examples); and what it does with lines
+that are none.
 
 usage: bench_test.py BENCH      (a program, or a command of several words: what runs it, and the program)
 """
+import functools
 import hashlib
 import subprocess
 import sys
@@ -20,6 +22,7 @@ def run(bench, script, *words):
     return p.returncode, p.stdout.decode().splitlines(), p.stderr.decode().splitlines()
 
 
+@functools.cache
 def digest(data):
     h = g = 0
     for x in data:
@@ -42,6 +45,13 @@ def sha(kind, data):
 
 
 ZEROS = '0' * 128
+MOST = 2**32 - 1  # of completed exchanges
+
+
+def kept(k=b'', h=b'', identifier=b'', count=0, id_len=None):
+    """What the state shows of K's record, of H and of the session."""
+    return (f' k={digest(k.ljust(71, bytes(1)))} h={digest(h.ljust(64, bytes(1)))} '
+            f'sid={len(identifier) if id_len is None else id_len}:{digest(identifier.ljust(64, bytes(1)))} n={count}')
 
 
 # ---- document 01's worked and run-only examples: line, and what its answer begins with
@@ -99,7 +109,7 @@ def hybrids():
         x, k_pq, own = b'\0\x80' + b'\x11' * (x_len - 2), b'\x5a' * 32, f'{h(b"k")} {h(s)}'
         k = string(bytes.fromhex(sha(kind, k_pq + x)[:2 * kind]))
         hashed = b''.join(map(string, (b'a', b'b', b'\x14', b'\x14', b'k', c, s))) + k
-        at = f' | ex 2.{method}.init.0.1,1,1,1,0,{c_len},0 k={digest(bytes(71))} h={digest(bytes(64))}'
+        at = f' | ex 2.{method}.init.0.1,1,1,1,0,{c_len},0{kept()}'
         begin = server(method, c, x, s)[:3]
         given = f'secret G{x_len} {h(x)}'
         for refused in (f'{given} d - {own}', f'{given} d {h(k_pq[1:])} {own}', f'{given} d {h(k_pq + k_pq[:1])} {own}',
@@ -109,8 +119,8 @@ def hybrids():
         for ends, number in ((f'secret F - d {h(k_pq)} {own}', 16), (f'secret F - f - {own}', 16), (f'{given} f - {own}', 17)):
             yield begin + [ends], ['0', '0', '0', f'{number} 0 {ZEROS} | ex 2.{method}.failed.{number}.0,0,0,0,0,0,0']
         yield begin + [f'{given} d {h(k_pq)} {own}'], [
-            '0', '0', '0', f'0 {len(hashed)} {sha(kind, hashed)} | ex 2.{method}.secret.0.1,1,1,1,1,{c_len},{s_len} '
-            f'k={digest(k.ljust(71, bytes(1)))} h={digest(bytes.fromhex(sha(kind, hashed)))} room={digest(hashed.ljust(14156, bytes(1)))}']
+            '0', '0', '0', f'0 {len(hashed)} {sha(kind, hashed)} | ex 2.{method}.secret.0.1,1,1,1,1,{c_len},{s_len}'
+            f'{kept(k, bytes.fromhex(sha(kind, hashed)))} room={digest(hashed.ljust(14156, bytes(1)))}']
         # what somebody wrote into the room is hashed as it stands there
         poked = b'\0\0\0\1X' + hashed[5:]
         yield begin + ['poke 4 58', f'{given} d {h(k_pq)} {own}'], ['0', '0', '0', '0', f'0 {len(hashed)} {sha(kind, poked)} |']
@@ -244,7 +254,7 @@ def exchanges():
     for n in (31, 33):
         payload = h(bytes([30]) + string(bytes(n)))
         yield [room, 'start 2 1 61 62 14 14', f'init {payload}', f'init {payload}'], [
-            '0', '0', f'14 0:- | ex 2.1.failed.14.0,0,0,0,0,0,0 k={digest(bytes(71))} h={digest(bytes(64))} room={digest(bytes(14156))}', '1 0:-']
+            '0', '0', f'14 0:- | ex 2.1.failed.14.0,0,0,0,0,0,0{kept()} room={digest(bytes(14156))}', '1 0:-']
     # P12: REPLY cut in its third length
     cut = h(bytes([31]) + string(b'k') + string(bytes(32)) + bytes(3))
     yield [room, 'start 1 1 61 62 14 14', f'ownc {"00" * 32} 00*1670', f'reply {cut}'], ['0', '0', '0 37', '12 0:- 0:- 0:-']
@@ -259,8 +269,8 @@ def exchanges():
         yield [room, begin, f'set l2 {n}', init, begin, init, f'set l6 {n}', 'blank'], [
             '0', whole, '0' + forged, '1 0:-' + forged, whole, '0 5:', f'0 | ex 2.1.init.0.1,1,1,1,0,32,{n}', zeros]
     yield ['blank', 'set fail 9'], ['0 | ex 0.0.failed.0.', '0 | ex 0.0.failed.9.']
-    # a fault behind the secret step and any start leave neither K nor H, and no key
-    none = f' k={digest(bytes(71))} h={digest(bytes(64))} room='
+    # a fault behind the secret step and any start leave neither K nor H, and no key; a start leaves no session either
+    none = f'{kept()} room='
     secret = server(1, bytes(32), b'\1' * 32)
     k, hashed = string(b'\1' * 32), b''.join(map(string, (b'a', b'b', b'\x14', b'\x14', b'k', bytes(32), bytes(32), b'\1' * 32)))
     exchange_hash = bytes.fromhex(sha(32, hashed)[:64])
@@ -315,8 +325,8 @@ def captured():
         def after(role, stage, names, k=b'', h=b''):
             room = b''.join(string(f[name]) for name in HASHED if name in names) + k
             lens = ','.join(str(len(f[name]) if name in names else 0) for name in HASHED)
-            return (f' | ex {role}.{method}.{stage}.0.{lens} k={digest(k.ljust(71, bytes(1)))} h={digest(h.ljust(64, bytes(1)))} '
-                    f'room={digest(lent(room, 14156))}')
+            session = (h, 1) if stage == 'complete' else ()
+            return f' | ex {role}.{method}.{stage}.0.{lens}{kept(k, h, *session)} room={digest(lent(room, 14156))}'
 
         def done(role, lines, wants):
             """The steps, no key ahead of the last one, and keys behind it."""
@@ -353,35 +363,40 @@ def captured():
 # ---- keys of exchanges that no steps made
 
 class Record:
-    """One that is complete and fits, field by field; the kept one is made to be it by lines, whatever it was."""
-    def __init__(self, method, k, h, role=1):
+    """One that is complete and fits, field by field; the kept one is made to be it by lines, whatever it was. Its identifier is H where no other is
+    named."""
+    def __init__(self, method, k, h, role=1, identifier=None):
         row = METHODS[method]
-        self.fields = dict(zip(('role', 'method', 'stage', *(f'l{i}' for i in range(7))), (role, method, 'complete', 9, 9, 20, 20, 8, row.c, row.s)))
-        self.k, self.h = k.ljust(71, b'\0'), h.ljust(64, b'\0')
+        identifier = h[:row.kind] if identifier is None else identifier
+        self.fields = dict(zip(('role', 'method', 'stage', *(f'l{i}' for i in range(7)), 'slen', 'count'),
+                               (role, method, 'complete', 9, 9, 20, 20, 8, row.c, row.s, len(identifier), 1)))
+        self.k, self.h, self.identifier = k.ljust(71, b'\0'), h.ljust(64, b'\0'), identifier.ljust(64, b'\0')
 
     def made(self):
         for field, value in self.fields.items():
             yield f'set {field} {value}', '0 | ex '
         yield f'put k {h(self.k)}', '0 | ex '
-        yield f'put h {h(self.h)}', f'0{self.state()}'
+        yield f'put h {h(self.h)}', '0 | ex '
+        yield f'put sid {h(self.identifier)}', f'0{self.state()}'
 
     def state(self):
-        role, method, stage, *lens = self.fields.values()
-        return f' | ex {role}.{method}.{stage}.0.{",".join(map(str, lens))} k={digest(self.k)} h={digest(self.h)} room={digest(b"")}'
+        role, method, stage, *lens, id_len, count = self.fields.values()
+        return (f' | ex {role}.{method}.{stage}.0.{",".join(map(str, lens))}{kept(self.k, self.h, self.identifier, count, id_len)} '
+                f'room={digest(b"")}')
 
     def given(self, letter, key):
         return f'derive {letter} {len(key)} 55*{len(key) + 2}', f'0 {out(lent(key, len(key) + 2))}{self.state()}'
 
     def but(self, line, **fields):
         """With other fields: what a line changes."""
-        other = Record(1, self.k, self.h)
+        other = Record(1, self.k, self.h, identifier=self.identifier)
         other.fields = {**self.fields, **fields}
         return [(line, f'0{other.state()}')], other
 
 
 def published_keys():
-    for method, key in of_records():
-        record = Record(method, key.k, key.h, role=1 + key.letter % 2)
+    for method, key in of_records(later=True):
+        record = Record(method, key.k, key.h, role=1 + key.letter % 2, identifier=key.identifier)
         yield from record.made()
         yield record.given(key.letter, key.key)
 
@@ -394,7 +409,18 @@ def forged_keys():
         key = derived(row.kind, k, digest_bytes, 66, digest_bytes, 100)
         yield from record.made()
         yield record.given(66, key)
-        wrong = [('role', 0), ('role', 3), ('role', 255), ('method', 0), ('method', 10), ('method', 255), ('stage', 'secret'), ('stage', 'failed'),
+        # every count up to the most has the same keys; an identifier of another length, others
+        for count in (2, 2**16, MOST - 1, MOST):
+            lines, other = record.but(f'set count {count}', count=count)
+            yield from [*lines, other.given(66, key)]
+        yield 'set count 1', f'0{record.state()}'
+        for id_len in {32, 48, 64} - {row.kind}:
+            lines, other = record.but(f'set slen {id_len}', slen=id_len)
+            yield from [*lines, other.given(66, derived(row.kind, k, digest_bytes, 66, record.identifier[:id_len], 100))]
+        yield f'set slen {row.kind}', f'0{record.state()}'
+        wrong = [*(('slen', n) for n in (0, 1, 31, 33, 47, 49, 63, 65, 65535, 65536 + row.kind, 2**32 + row.kind, 2**64 - 1)),
+                 *(('count', n) for n in (0, MOST + 1, MOST + 2, 2**63, 2**64 - 1)),
+                 ('role', 0), ('role', 3), ('role', 255), ('method', 0), ('method', 10), ('method', 255), ('stage', 'secret'), ('stage', 'failed'),
                  *((f'l{i}', n) for i, most in enumerate((253, 253, 4096, 4096, 2048)) for n in (0, most + 1, 65536 + 1, 2**64 - 1)),
                  *((f'l{i}', n + by) for i, n in ((5, row.c), (6, row.s)) for by in (-1, 1))]
         for field, value in wrong:
@@ -420,10 +446,21 @@ def forged_keys():
             yield f'put h {h(other.h)}', f'0{other.state()}'
             yield other.given(66, key)
             yield f'put h {h(record.h)}', f'0{record.state()}'
+        # so it is with the identifier's
+        for at in (0, row.kind - 1, row.kind, 63):
+            if at > 63:
+                continue
+            forged = record.identifier[:at] + b'\xee' + record.identifier[at + 1:]
+            other = Record(method, k, digest_bytes, identifier=forged)
+            other.fields = record.fields
+            yield f'set s{at} 238', f'0{other.state()}'
+            yield other.given(66, derived(row.kind, k, digest_bytes, 66, forged[:row.kind], 100))
+            yield f'put sid {h(record.identifier)}', f'0{record.state()}'
         shorter = string(b'\x5a' * row.least)
         for k, digest_bytes in ((shorter, digest_bytes), (string(bytes(row.most)), digest_bytes), (k, bytes(row.kind)), (k, b'\xff' * row.kind)):
             other = Record(method, k, digest_bytes)
             yield f'put k {h(other.k)}', '0 | ex '
+            yield f'put sid {h(other.identifier)}', '0 | ex '
             yield f'put h {h(other.h)}', f'0{other.state()}'
             yield other.given(70, derived(row.kind, k, digest_bytes, 70, digest_bytes, 128))
 
@@ -434,15 +471,279 @@ def records():
         yield [list(words) for words in zip(*cases)]
 
 
+# ---- exchanges of a session one behind another
+
+# each method of the captures, with hashes that change
+SESSIONS = ((1, 3, 5), (8, 2, 6), (3, 7, 9), (5, 4, 8), (6, 6, 1), (9, 8, 3))
+
+
+class Session:
+    """Captured exchanges one behind another in one room: lines, and what each is answered with all of its state. The V's are the first one's,
+    the identifier its H."""
+    def __init__(self, role, size=14156):
+        self.role, self.room, self.said = role, bytearray(b'\x55' * size), [(f'room 55*{size}', '0 | ex ')]
+        self.identifier, self.count, self.id_len, self.versions = b'', 0, None, None
+
+    def say(self, line, answer):
+        self.said.append((line, answer + self.state()))
+
+    def state(self):
+        lens = ','.join(str(len(self.f[name]) if name in self.names else 0) for name in HASHED)
+        return (f' | ex {self.role}.{self.method}.{self.stage}.{lens}{kept(self.k, self.h, self.identifier, self.count, self.id_len)} '
+                f'room={digest(bytes(self.room))}')
+
+    def stands(self, stage, names, k=b'', h=b''):
+        """A stage, and the room's beginning: the V's as they stand there, and the other fields."""
+        self.stage, self.names, self.k, self.h = f'{stage}.0', names, k, h
+        front = self.versions if self.versions is not None else string(self.f['V_C']) + string(self.f['V_S'])
+        begin = front + b''.join(string(self.f[name]) for name in HASHED[2:] if name in names) + k
+        self.room[:len(begin)] = begin
+
+    def begin(self, method, f):
+        self.method = method
+        if self.versions is None:
+            self.f = f
+            self.stands('started', STARTED)
+            self.say(f'start {self.role} {method} ' + ' '.join(h(f[name]) for name in STARTED), '0')
+            self.versions = string(f['V_C']) + string(f['V_S'])
+        else:
+            self.f = {**f, 'V_C': self.f['V_C'], 'V_S': self.f['V_S']}
+            self.stands('started', STARTED)
+            self.say(f'again {method} {h(f["I_C"])} {h(f["I_S"])}', '0')
+
+    def refused(self, line, number=1, rest=''):
+        self.say(line, f'{number}{rest}')
+
+    def poke(self, at, data):
+        """Somebody writes over the V's."""
+        self.versions = self.versions[:at] + data + self.versions[at + len(data):]
+        self.room[at:at + len(data)] = data
+        self.say(f'poke {at} {h(data)}', '0')
+
+    def lend(self, size):
+        """Another room, with the bytes of this one's beginning and no more of it."""
+        self.room = bytearray(b'\x55' * size)
+        self.say(f'room 55*{size}', '0')
+        self.room[:len(self.versions)] = self.versions
+        self.say(f'poke 0 {h(self.versions)}', '0')
+
+    def hash_of(self):
+        kind = METHODS[self.method].kind
+        data = self.versions + b''.join(string(self.f[name]) for name in HASHED[2:]) + self.f['K']
+        return hashlib.new(f'sha{8 * kind}', data).digest(), len(data)
+
+    def steps(self):
+        """The steps from a beginning on, each as a line, what it answers but for the state, and the state that it leads to."""
+        f, (digested, hashed) = self.f, self.hash_of()
+        secret = f'secret G{len(f["X"])} {h(f["X"])} {"d" if f["K_PQ"] else "a"} {h(f["K_PQ"])}'
+        taken = f'0 {hashed} {digested.ljust(64, bytes(1)).hex()}', ('secret', HASHED, f['K'], digested)
+        k_out, done = out(lent(f['K'].ljust(71, b'\0'), 71)), ('complete', HASHED, f['K'], digested)
+        if self.role == 1:
+            yield f'ownc {h(f["C"])} 55*1670', f'0 {len(f["INIT"])} {out(lent(f["INIT"], 1670))}', ('own_c', WITH_C)
+            at = len(f['K_S']) + 5
+            yield f'reply {h(f["REPLY"])}', (f'0 5:{h(f["K_S"])} {at + 4}:{h(f["S"])} '
+                                             f'{at + len(f["S"]) + 8}:{h(f["signature"])}'), ('reply', HASHED)
+            yield (f'{secret} - -', *taken)
+            yield 'verdict 1 1 55*71', f'0 {len(f["K"])} {k_out}', done
+        else:
+            yield f'init {h(f["INIT"])}', f'0 5:{h(f["C"])}', ('init', WITH_C)
+            yield (f'{secret} {h(f["K_S"])} {h(f["S"])}', *taken)
+            yield f'sign {h(f["signature"])} 55*5774 55*71', f'0 {len(f["REPLY"])} {len(f["K"])} {out(lent(f["REPLY"], 5774))} {k_out}', done
+
+    def step(self, line, answer, stage):
+        self.stands(*stage)
+        if stage[0] == 'complete':
+            self.identifier = self.identifier if self.count else self.h
+            self.count += 1
+        self.say(line, answer)
+
+    def complete(self):
+        for step in self.steps():
+            self.step(*step)
+
+    def keys(self, letters=range(65, 71), length=100):
+        """Keys by this exchange's K, H and hash, and the session's identifier."""
+        id_len = len(self.identifier) if self.id_len is None else self.id_len
+        for letter in letters:
+            kind = METHODS[self.method].kind
+            key = derived(kind, self.k, self.h[:kind], letter, self.identifier[:id_len], length)
+            self.say(f'derive {letter} {length} 55*{length + 1}', f'0 {out(lent(key, length + 1))}')
+
+    def no_key(self):
+        for line, answer in not_complete(''):
+            self.say(line, answer)
+
+    def sets(self, id_len, count):
+        """Somebody writes over the session."""
+        self.id_len = id_len
+        self.say(f'set slen {id_len}', '0')
+        self.count = count
+        self.say(f'set count {count}', '0')
+
+    def fault(self):
+        """A message of the peer's that is none, in a client's second step and in a server's first."""
+        if self.role == 1:
+            self.step(*next(self.steps()))
+        self.room[:] = bytes(len(self.room))
+        self.stage, self.names, self.k, self.h = 'failed.12', (), b'', b''
+        self.say(*(('reply 1f', '12 0:- 0:- 0:-') if self.role == 1 else ('init 1e', '12 0:-')))
+
+
+def rekeyed():
+    """Three exchanges in each role, keys behind each, and a fault in the fourth, which leaves identifier and count."""
+    of = dict(reversed(list(captures())))
+    for role, methods in ((role, methods) for methods in SESSIONS for role in (1, 2)):
+        s = Session(role, 14156 + role)
+        for n, method in enumerate(methods, 1):
+            s.begin(method, of[method])
+            s.no_key()
+            s.refused('again 1 14 14')
+            for step in s.steps():
+                s.step(*step)
+                if not s.stage.startswith('complete'):
+                    s.refused('again 1 14 14')
+                    s.refused('again 0 - -')
+            s.keys()
+            for line, number in (('again 0 14 14', 2), ('again 10 14 14', 2), ('again 255 - -', 2), ('again 1 - 14', 4), ('again 1 14 -', 4),
+                                 ('again 1 15 14', 4), ('again 1 14 1e', 4), ('again 1 14*4097 14', 4), ('again 1 14 14*4097', 4)):
+                s.refused(line, number)
+            s.keys(letters=[65 + n], length=128)
+        # a room that is too short is 3, ahead of 4; one that is long enough, with the V's in it, begins the next
+        beginning = len(s.room)
+        s.lend(14155)
+        s.refused('again 1 14 14', 3)
+        s.refused('again 1 15 15', 3)
+        s.refused('again 0 14 14', 2)
+        s.keys(letters=[70], length=20)
+        s.lend(beginning)
+        # the V's are taken as they stand, with bytes that no V has, and with other length bytes
+        s.poke(2, b'\xff\0\0')
+        s.poke(len(s.versions) - 1, b'\r')
+        s.begin(methods[0], of[methods[0]])
+        s.complete()
+        s.keys(length=64)
+        s.begin(methods[1], of[methods[1]])
+        s.fault()
+        s.no_key()
+        s.refused('again 1 14 14')
+        s.refused('init 1e', rest=' 0:-')
+        # and a start begins another session
+        s.versions, s.identifier, s.count = None, b'', 0
+        s.begin(methods[2], of[methods[2]])
+        s.complete()
+        s.keys(length=32)
+        yield s.said
+
+
+def refused_step(line):
+    """What a step answers behind its number where it is refused: no count, no part, H of zeros, outputs as they were lent."""
+    call, *words = line.split(' ')
+    outs = ' '.join(out(lent(b'', int(word[3:]))) for word in words if word.startswith('55*'))
+    return {'ownc': f' 0 {outs}', 'init': ' 0:-', 'reply': ' 0:- 0:- 0:-', 'secret': f' 0 {ZEROS}', 'sign': f' 0 0 {outs}', 'verdict': f' 0 {outs}'}[call]
+
+
+def forged_sessions():
+    """At every stage of both roles: lengths and counts that do not go together, counts above the most, the most while not complete and 0 while
+    complete, each refused and left as it is; then those that fit, and on to the most, where an exchange begins no other."""
+    of = dict(reversed(list(captures())))
+    apart = [(0, 1), (0, MOST - 1), (32, 0), (64, 0), (31, 1), (33, 5), (1, 1), (65, 1), (256 + 32, 1), (65535, 1), (65536 + 32, 1), (2**32 + 48, 2),
+             (2**64 - 1, 1), (32, MOST + 1), (48, MOST + 2), (64, 2**63), (32, 2**64 - 1), (0, MOST), (0, 2**64 - 1)]
+    for role, method in ((1, 1), (2, 5), (1, 8), (2, 3)):
+        s = Session(role)
+        s.begin(method, of[method])
+        for step in s.steps():
+            for id_len, count in [*apart, (32, MOST), (64, MOST)]:
+                s.sets(id_len, count)
+                s.refused(step[0], rest=refused_step(step[0]))
+                s.refused('again 1 14 14')
+                s.no_key()
+            s.sets(0, 0)
+            s.id_len = None
+            s.step(*step)
+        for id_len, count in [*apart, (0, 0)]:
+            s.sets(id_len, count)
+            s.refused('again 1 14 14')
+            s.refused('again 0 15 -')
+            s.no_key()
+        # at the most: keys as before, 2, 3 and 4 ahead of 23, and the exchange stays complete
+        for id_len in (32, 48, 64):
+            s.identifier = s.identifier.ljust(64, b'\0')
+            s.sets(id_len, MOST)
+            s.keys(letters=[65, 70])
+            for line, number in (('again 0 14 14', 2), ('again 10 15 15', 2), ('again 1 15 14', 4), ('again 9 14 -', 4), ('again 1 14 14', 23),
+                                 (f'again {method} 14*4096 14', 23)):
+                s.refused(line, number)
+            s.lend(14155)
+            s.refused('again 1 14 14', 3)
+            s.refused('again 1 15 14', 3)
+            s.lend(14156)
+            s.refused('again 1 14 14', 23)
+            s.keys(letters=[67])
+        # one below it: begun again, completed, and full then by counting
+        s.sets(METHODS[method].kind, MOST - 1)
+        s.begin(method, of[method])
+        s.complete()
+        s.keys(letters=[66])
+        s.refused('again 1 14 15', 4)
+        s.refused('again 1 14 14', 23)
+        # a count in the middle goes on from there, with the identifier that stands there, whose bytes nobody judges
+        s.identifier = bytes(range(100, 164))
+        s.say(f'put sid {h(s.identifier)}', '0')
+        s.sets(48, 7)
+        s.begin(method, of[method])
+        s.complete()
+        s.keys(letters=[69])
+        # blank forgets the session
+        s.said.append(('blank', f'0 | ex 0.0.failed.0.0,0,0,0,0,0,0{kept()} room={digest(bytes(s.room))}'))
+        yield s.said
+
+
+def as_they_stand():
+    """The first identifier is all 64 bytes of H as somebody left them, whatever stood in its place; a later exchange's H is not looked at."""
+    of = dict(reversed(list(captures())))
+    for role, methods in ((1, (5, 1)), (2, (1, 3))):
+        s = Session(role)
+        for n, method in enumerate(methods, 1):
+            s.begin(method, of[method])
+            *early, (line, answer, (stage, names, k, _)) = s.steps()
+            for step in early:
+                s.step(*step)
+            s.h = bytes(range(n, n + 64))
+            s.say(f'put h {h(s.h)}', '0')
+            if n == 1:
+                s.identifier, s.id_len = b'\xee' * 64, 0
+                s.say(f'put sid {h(s.identifier)}', '0')
+                s.id_len = METHODS[method].kind
+            s.step(line, answer, (stage, names, k, s.h))
+            s.keys()
+        yield s.said
+
+
+def sessions():
+    for said in [*rekeyed(), *forged_sessions(), *as_they_stand()]:
+        yield [list(words) for words in zip(*said)]
+
+
 # ---- the landings' examples, as the bench answered when each was the last; what the state has gained since
 
-LATER = {'102': ['h'], '105': []}
+LATER = {'102': ['h', 'sid', 'n'], '105': ['sid', 'n'], '106': []}
+
+
+def also(line):
+    """Until rekeying came the session identifier was H: a script of that time that writes over H writes over the identifier too."""
+    word, field, value = line.split(' ')
+    return f'put sid {value}' if word == 'put' else f'set s{field[1:]} {value}'
 
 
 def examples():
     for name, later in LATER.items():
         script, answers = ((ROOT / f'tests/examples/{name}.{end}').read_text().splitlines() for end in ('script', 'answers'))
         lines = [line for line in script if not line.startswith('#')]
+        if name == '105':
+            at = [i for i, line in enumerate(lines) if line.startswith(('set h', 'put h '))]
+            for i in reversed(at):
+                lines.insert(i + 1, also(lines[i]))
+                answers.insert(i + 1, answers[i])
 
         def holds(answer, want, later=later):
             return ' '.join(word for word in answer.split(' ') if word.split('=')[0] not in later) == want
@@ -455,6 +756,8 @@ BAD = [
     'rstr 00*x', 'rstr 00*-1', 'wstr 00', 'open 14 x', 'open 14 18446744073709551616', 'next 1', 'wkex 00 - - 0 0 -',
     'set what 1', 'set role 256', 'set l7 1', 'set k71 1', 'set k0 256', 'set h64 1', 'set h0 256', 'set h 1', 'set stage ended', 'set fail',
     'put', 'put k', 'put k 0', 'put k 00*72', 'put h 00*65', 'put room 00', 'put h0 00', 'poke 0 00', 'start 256 1 - - - -',
+    'put sid 00*65', 'put s0 00', 'put slen 00', 'set s64 1', 'set s0 256', 'set s 1', 'set s00 1', 'set sid 1', 'set slen 18446744073709551616',
+    'set count 18446744073709551616', 'set count -1', 'set count', 'again', 'again 1 14', 'again 256 14 14', 'again 1 14 14 14', 'again x 14 14',
     'secret X - a - - -', 'secret G - a - - -', 'secret F - x - - -', 'sha', 'sha 256', 'feed', 'feed 0', 'finish 1',
     'shaset kind 256', 'shaset total 18446744073709551616', 'shaset held 0', 'verdict 2 1 -', 'verdict 1 1', 'derive 65 16', 'derive 256 16 -',
     'derive A 16 -', 'derive 65 18446744073709551616 -', 'derive 65 16 - -', 'rstr 00\r', 'rstr 00\0',
@@ -470,7 +773,7 @@ def main():
             failed.append(f'{what}: {have!r}, not {want!r}')
 
     count = 0
-    steps = [(lines, wants, str.startswith) for lines, wants in [*secrets(), *hybrids(), *exchanges(), *captured(), *records()]]
+    steps = [(lines, wants, str.startswith) for lines, wants in [*secrets(), *hybrids(), *exchanges(), *captured(), *records(), *sessions()]]
     whole = [(lines, wants, str.__eq__) for lines, wants in lists()]
     for lines, wants, holds in steps + whole + list(examples()):
         status, answers, errors = run(bench, '\n'.join(lines) + '\n')

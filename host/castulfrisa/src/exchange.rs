@@ -16,7 +16,10 @@
 //! | `sign` | `Server<Complete>`, and REPLY; K is written |
 //!
 //! A complete exchange, of either role, gives the keys (`derive`): nothing else need be kept for them, not K either. It is no step, and may be asked
-//! for each key, and again, until the exchange is dropped.
+//! for each key, and again, until the exchange is dropped or begins again.
+//!
+//! Rekeying is `again` on a complete exchange, with new KEXINITs: it is at its start again (`Started`), in the same role, exchange bytes and room. At every stage
+//! `session` tells the identifier, which is H of the first one that was completed, and how many were.
 //!
 //! A step that is refused with nothing changed brings the exchange back ([`Stopped::Refused`]); the peer's fault ends it, and
 //! there is none any more ([`Stopped::Failed`]). Here a room that is too short is refused, and one that is long enough is lent
@@ -68,6 +71,16 @@
 //! # let (mut exchange, mut room) = ([0; EXCHANGE], [0; ROOM]);
 //! let client = Client::start(Method::Curve25519Sha256, greeting, &mut exchange, &mut room).unwrap();
 //! client.derive(Letter::IvC2s, 16, &mut Key::new());
+//! ```
+//!
+//! A beginning again before the exchange is complete:
+//!
+//! ```compile_fail,E0599
+//! # use castulfrisa::{Client, Greeting, Method, EXCHANGE, INIT, ROOM};
+//! # let greeting = Greeting { vc: b"c", vs: b"s", ic: &[20], is: &[20] };
+//! # let (mut exchange, mut room) = ([0; EXCHANGE], [0; ROOM]);
+//! let client = Client::start(Method::Curve25519Sha256, greeting, &mut exchange, &mut room).unwrap();
+//! client.again(Method::Curve25519Sha256, &[20], &[20]);
 //! ```
 //!
 //! A second use of an exchange that a step consumed:
@@ -312,6 +325,32 @@ impl Drop for K {
     }
 }
 
+/// What an exchange keeps of its whole session, over all beginnings again.
+#[derive(Clone, Copy, PartialEq, Eq)]
+pub struct Session {
+    id: [u8; H_SIZE],
+    told: raw::Session,
+}
+
+impl Session {
+    /// The session identifier: H of the first exchange that was completed, of the bytes that its digest has; none until then.
+    pub fn id(&self) -> &[u8] {
+        &self.id[..self.told.id_len as usize]
+    }
+
+    /// How many exchanges were completed.
+    pub fn completed(&self) -> u64 {
+        self.told.completed
+    }
+}
+
+impl fmt::Debug for Session {
+    // without the identifier, which is an H
+    fn fmt(&self, f: &mut fmt::Formatter<'_>) -> fmt::Result {
+        f.debug_struct("Session").field("completed", &self.completed()).finish_non_exhaustive()
+    }
+}
+
 /// What an exchange was lent: both hold K from the secret step on, and both are wiped when it ends, however it ends. Lent, so
 /// that an exchange can be moved without a copy of K being left where it was.
 struct Lent<'r> {
@@ -429,6 +468,14 @@ impl<R: Side, S> Exchange<'_, R, S> {
     pub fn role(&self) -> Role {
         R::ROLE
     }
+
+    /// The session identifier, and how many exchanges were completed, at any stage.
+    pub fn session(&self) -> Session {
+        let mut session = Session { id: [0; H_SIZE], told: raw::Session::default() };
+        // 0: an exchange that lives has an identifier that goes with its count
+        let _ = raw::session_id(self.lent.exchange, &mut session.told, &mut session.id);
+        session
+    }
 }
 
 impl<'r, R: Side> Exchange<'r, R, Started> {
@@ -534,14 +581,24 @@ impl<R> Exchange<'_, R, SecretDone> {
     }
 }
 
+impl<'r, R> Exchange<'r, R, Complete> {
+    /// Begins again, to rekey: in the same role, in any method, with new I_C and I_S behind the version lines that stand in the room. K and H
+    /// are gone then, and keys with them: derive first. The last exchange's K stays in the room until it is written over.
+    pub fn again(mut self, method: Method, ic: &[u8], is: &[u8]) -> Result<Exchange<'r, R, Started>, Stopped<Self>> {
+        let Lent { exchange, room } = &mut self.lent;
+        let number = raw::again(*exchange, room, method.number(), ic, is);
+        self.after(number, Started(()))
+    }
+}
+
 impl<R> Exchange<'_, R, Complete> {
-    /// A key of so many bytes, 1 to `KEY_MOST`, by RFC 4253, section 7.2; the session identifier is H. It is written into `key`. Fewer bytes
-    /// are a beginning of what more would be.
+    /// A key of so many bytes, 1 to `KEY_MOST`, by RFC 4253, section 7.2, with the session identifier that the exchange holds. It is written into
+    /// `key`. Fewer bytes are a beginning of what more would be.
     pub fn derive(&self, letter: Letter, length: usize, key: &mut Key) -> Result<(), Refusal> {
         judged(key.derived(self.lent.exchange, letter, length))
     }
 
-    /// H, the exchange hash; of a connection's first exchange it is the session identifier.
+    /// H, the exchange hash; of a session's first exchange it is the session identifier.
     pub fn h(&self) -> &[u8] {
         self.stage.hashed.h()
     }

@@ -44,6 +44,12 @@
 //! server.derive(Letter::CipherKeyC2s, 32, &mut receives)?;
 //! assert_eq!(sends.as_bytes(), receives.as_bytes());
 //!
+//! // rekeying: the same exchange begins again, with new KEXINITs and any method; the session identifier is the first one's H
+//! let id = server.session();
+//! assert_eq!(id.id(), server.h());
+//! let server = server.again(Method::Curve448Sha512, &mine[..n], &mine[..n])?;
+//! assert_eq!((server.session().id(), server.session().completed()), (id.id(), 1));
+//!
 //! // what an exchange was lent is zeros again once it is dropped
 //! drop(server);
 //! assert!(server_exchange.iter().chain(&server_room).all(|byte| *byte == 0));
@@ -61,7 +67,7 @@ pub mod raw;
 mod refusal;
 mod wire;
 
-pub use exchange::{Classical, Client, Greeting, Kem, Own, Reply, Role, Server, Stopped, K};
+pub use exchange::{Classical, Client, Greeting, Kem, Own, Reply, Role, Server, Session, Stopped, K};
 pub use hash::{Hash, Kind};
 pub use kexinit::{choose, open_list, write_kexinit, Choice, Kexinit, List, Names, NotWritten};
 pub use keys::{Key, Letter};
@@ -70,10 +76,10 @@ pub use refusal::Refusal;
 pub use wire::{read_mpint, read_string, write_mpint, write_string, Mpint};
 
 /// The version of the header that this crate was written to.
-pub const VERSION: u64 = 4;
+pub const VERSION: u64 = 5;
 
 /// The bytes of an exchange.
-pub const EXCHANGE: usize = 154;
+pub const EXCHANGE: usize = 228;
 /// The room that an exchange needs, in bytes.
 pub const ROOM: usize = 14_156;
 /// The least output for INIT.

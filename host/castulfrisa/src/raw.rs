@@ -95,6 +95,14 @@ pub struct Progress {
     pub method: u64,
 }
 
+/// The session identifier's length, and how many exchanges were completed.
+#[repr(C)]
+#[derive(Clone, Copy, Debug, Default, PartialEq, Eq)]
+pub struct Session {
+    pub id_len: u64,
+    pub completed: u64,
+}
+
 // A slice crosses as its pointer and its length: the header's pairs in the header's order.
 mod c {
     use super::*;
@@ -160,6 +168,12 @@ mod c {
             exchange: *mut u8, exchange_len: u64, room: *mut u8, room_len: u64,
             signature: u64, host_key: u64, k_out: *mut u8, k_out_len: u64, count: *mut u64,
         ) -> u64;
+        pub fn castulfrisa_again(
+            exchange: *mut u8, exchange_len: u64, room: *mut u8, room_len: u64,
+            method: u64,
+            ic: *const u8, ic_len: u64,
+            is: *const u8, is_len: u64,
+        ) -> u64;
         pub fn castulfrisa_init_c(
             exchange: *const u8, exchange_len: u64, room: *const u8, room_len: u64,
             payload: *const u8, payload_len: u64, c: *mut Part,
@@ -177,6 +191,7 @@ mod c {
             payload: *const u8, payload_len: u64, signature: *mut Part,
         ) -> u64;
         pub fn castulfrisa_state(exchange: *const u8, exchange_len: u64, told: *mut Progress) -> u64;
+        pub fn castulfrisa_session_id(exchange: *const u8, exchange_len: u64, told: *mut Session, id: *mut u8) -> u64;
         pub fn castulfrisa_derive(
             exchange: *const u8, exchange_len: u64, letter: u64, length: u64, key: *mut u8, key_len: u64,
         ) -> u64;
@@ -349,6 +364,18 @@ pub fn verdict(exchange: &mut [u8], room: &mut [u8], signature: u64, host_key: u
     }
 }
 
+/// A complete exchange begins again in its room.
+pub fn again(exchange: &mut [u8], room: &mut [u8], method: u64, ic: &[u8], is: &[u8]) -> u64 {
+    unsafe {
+        c::castulfrisa_again(
+            exchange.as_mut_ptr(), exchange.len() as u64, room.as_mut_ptr(), room.len() as u64,
+            method,
+            ic.as_ptr(), ic.len() as u64,
+            is.as_ptr(), is.len() as u64,
+        )
+    }
+}
+
 // ---- calls on an exchange that are no steps
 
 /// What `read_init` would answer, and C of an INIT that it would accept.
@@ -394,6 +421,11 @@ pub fn reply_signature(exchange: &[u8], room: &[u8], payload: &[u8], signature: 
 /// How far an exchange has come.
 pub fn state(exchange: &[u8], told: &mut Progress) -> u64 {
     unsafe { c::castulfrisa_state(exchange.as_ptr(), exchange.len() as u64, told) }
+}
+
+/// The session identifier, zeros after its own bytes, its length, and how many exchanges were completed.
+pub fn session_id(exchange: &[u8], told: &mut Session, id: &mut [u8; H_SIZE]) -> u64 {
+    unsafe { c::castulfrisa_session_id(exchange.as_ptr(), exchange.len() as u64, told, id.as_mut_ptr()) }
 }
 
 /// A key of a complete exchange, `length` bytes of it written at the beginning of `key`.

@@ -4,8 +4,8 @@ use core::fmt;
 /// Why a call was refused; `number` is the core's.
 #[derive(Clone, Copy, Debug, PartialEq, Eq, Hash)]
 pub enum Refusal {
-    /// 1: the call is not due: a step out of turn, also when the exchange is complete or failed, or a key of one that is not complete; or
-    /// the bytes lent for it are none.
+    /// 1: the call is not due: a step out of turn, also when the exchange is complete or failed, or a key or a new beginning of one that is
+    /// not complete; or the bytes lent for it are none.
     NotDue,
     /// 2: method not 1 to 9, or role neither client nor server.
     NoMethod,
@@ -41,12 +41,14 @@ pub enum Refusal {
     NoCommonHostKey,
     /// 22: an mpint that could be shorter.
     NotShortest,
+    /// 23: an exchange of a session that has 4,294,967,295 complete ones begins no other.
+    CountFull,
     /// Any other number, which no archive of this version gives.
     Other(u64),
 }
 
 /// Each number with its refusal and the header's sentence for it.
-const ALL: [(u64, Refusal, &str); 18] = [
+const ALL: [(u64, Refusal, &str); 19] = [
     (1, Refusal::NotDue, "the call is not due, or the bytes lent for the exchange are none"),
     (2, Refusal::NoMethod, "there is no such method or role"),
     (3, Refusal::ShortRoom, "the room is too short"),
@@ -65,6 +67,7 @@ const ALL: [(u64, Refusal, &str); 18] = [
     (20, Refusal::NoCommonMethod, "the two sides have no method in common"),
     (21, Refusal::NoCommonHostKey, "the two sides have no host key algorithm in common"),
     (22, Refusal::NotShortest, "an mpint could be shorter"),
+    (23, Refusal::CountFull, "4,294,967,295 exchanges are complete: this session can begin no other"),
 ];
 
 impl Refusal {

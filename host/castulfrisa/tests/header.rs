@@ -165,7 +165,7 @@ fn entries_are_the_headers() {
         let back = back.trim().strip_prefix("-> ").unwrap_or("()").to_string();
         ours.insert(ahead.to_string(), (list, back));
     }
-    assert_eq!(theirs.len(), 29);
+    assert_eq!(theirs.len(), 31);
     assert_eq!(ours, theirs);
 }
 
@@ -197,7 +197,7 @@ fn structs_are_the_headers() {
         };
         ours.insert(name.to_string(), fields.map(pair).collect());
     }
-    assert_eq!(theirs.len(), 10);
+    assert_eq!(theirs.len(), 11);
     assert_eq!(ours, theirs);
     // each stands as C lays it out
     assert_eq!(bare(RAW).matches("#[repr(C)]").count(), ours.len());

@@ -44,7 +44,7 @@ impl Run {
     }
 }
 
-/// A server's exchange, all of it, and a key; what lies below this frame is wiped from here, since it reaches furthest so.
+/// A server's exchange, all of it, a key, and a beginning again; what lies below this frame is wiped from here, since it reaches furthest so.
 #[inline(never)]
 fn exchange(run: &mut Run) {
     let greeting = Greeting { vc: b"c", vs: b"s", ic: &[20], is: &[20] };
@@ -55,6 +55,8 @@ fn exchange(run: &mut Run) {
     let (server, _) = server.sign(b"g", &mut run.reply, &mut run.k).unwrap();
     run.h.extend_from_slice(server.h());
     server.derive(Letter::CipherKeyC2s, KEY_MOST, &mut run.key).unwrap();
+    let server = server.again(Method::Curve448Sha512, &[20], &[20]).unwrap();
+    assert!(server.session().id() == run.h);
     drop(server);
     wipe_stack();
 }

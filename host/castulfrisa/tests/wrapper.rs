@@ -23,7 +23,7 @@ fn refusals_are_their_numbers() {
     for number in (1..=300).chain([1 << 32, u64::MAX]) {
         let refusal = Refusal::of(number);
         assert_eq!(refusal.number(), number);
-        assert_eq!(matches!(refusal, Refusal::Other(_)), !matches!(number, 1..=5 | 10..=22));
+        assert_eq!(matches!(refusal, Refusal::Other(_)), !matches!(number, 1..=5 | 10..=23));
         assert_eq!(refusal.ends_exchange(), matches!(number, 10..=18));
         assert!(refusal.to_string().ends_with(&format!("({})", number)));
     }
@@ -308,8 +308,8 @@ fn a_hybrids_k_is_the_hash_of_k_pq_and_x() {
 }
 
 /// RFC 4253, section 7.2, by hashes of whole messages.
-fn key(kind: Kind, k: &[u8], h: &[u8], letter: u8, length: usize) -> Vec<u8> {
-    let mut all = sha(kind, &[k, h, &[letter], h].concat());
+fn key(kind: Kind, k: &[u8], h: &[u8], letter: u8, id: &[u8], length: usize) -> Vec<u8> {
+    let mut all = sha(kind, &[k, h, &[letter], id].concat());
     while all.len() < length {
         all = [&all[..], &sha(kind, &[k, h, &all].concat())].concat();
     }
@@ -335,13 +335,13 @@ fn a_complete_exchange_gives_the_six_keys() {
             assert_eq!(one.as_bytes(), &[]);
             for length in [KEY_MOST, 1, 16, 20, 32, 64, 100] {
                 server.derive(letter, length, one).unwrap();
-                let want = key(kind, k.as_bytes(), server.h(), letter.number() as u8, length);
+                let want = key(kind, k.as_bytes(), server.h(), letter.number() as u8, server.h(), length);
                 assert_eq!((one.as_bytes(), Letter::of(letter.number())), (&want[..], Some(letter)));
             }
             // refused, a key stays
             for length in [0, KEY_MOST + 1, usize::MAX] {
                 assert_eq!(server.derive(letter, length, one), Err(Refusal::BadInput));
-                assert_eq!(one.as_bytes(), key(kind, k.as_bytes(), server.h(), letter.number() as u8, 100));
+                assert_eq!(one.as_bytes(), key(kind, k.as_bytes(), server.h(), letter.number() as u8, server.h(), 100));
             }
         }
         for (i, one) in keys.iter().enumerate() {
@@ -360,6 +360,122 @@ fn a_complete_exchange_gives_the_six_keys() {
     let server = server_at_secret(&mut b).sign(b"g", &mut [0; REPLY], &mut K::new()).unwrap().0;
     server.derive(Letter::MacKeyS2c, 64, &mut of_server).unwrap();
     assert_eq!(of_client.as_bytes(), of_server.as_bytes());
+}
+
+/// What both sides of an exchange are fed in a method.
+struct Fed {
+    c: Vec<u8>,
+    s: Vec<u8>,
+    x: Vec<u8>,
+    hybrid: bool,
+}
+
+impl Fed {
+    fn new(method: Method) -> Fed {
+        let sizes = method.sizes();
+        Fed { c: vec![4; sizes.c_len], s: vec![4; sizes.s_len], x: vec![0x9b; sizes.x_len], hybrid: sizes.hybrid }
+    }
+
+    fn kem(&self) -> Kem<'_> {
+        if self.hybrid { Kem::Done(&[0x71; K_PQ_SIZE]) } else { Kem::Absent }
+    }
+
+    fn init(&self) -> Vec<u8> {
+        [&[30][..], &(self.c.len() as u32).to_be_bytes(), &self.c].concat()
+    }
+
+    fn reply(&self) -> Vec<u8> {
+        [&[31, 0, 0, 0, 1, b'k'][..], &(self.s.len() as u32).to_be_bytes(), &self.s, &[0, 0, 0, 1, b'g']].concat()
+    }
+
+    /// A client's steps from a beginning on; the session is told alike at each, but for the last.
+    fn client<'r>(&self, client: Client<'r, Started>, k: &mut K) -> Client<'r, Complete> {
+        let session = client.session();
+        let client = client.own_c(&self.c, &mut [0; INIT]).unwrap().0;
+        assert_eq!(client.session(), session);
+        let client = client.read_reply(&self.reply()).unwrap().0;
+        assert_eq!(client.session(), session);
+        let client = client.take_secret(Classical::Given(&self.x), self.kem()).unwrap();
+        assert_eq!(client.session(), session);
+        client.verdict(true, true, k).unwrap()
+    }
+
+    fn server<'r>(&self, server: Server<'r, Started>, k: &mut K) -> Server<'r, Complete> {
+        let session = server.session();
+        let server = server.read_init(&self.init()).unwrap().0;
+        assert_eq!(server.session(), session);
+        let own = Own { host_key: b"k", s: &self.s };
+        let server = server.take_secret(Classical::Given(&self.x), self.kem(), own).unwrap();
+        assert_eq!(server.session(), session);
+        server.sign(b"g", &mut [0; REPLY], k).unwrap().0
+    }
+}
+
+#[test]
+fn a_complete_exchange_begins_again() {
+    // hashes that change from each to the next
+    let methods = [Method::Curve25519Sha256, Method::Curve448Sha512, Method::Mlkem1024Nistp384Sha384, Method::Curve25519Sha256];
+    let (mut of_client, mut of_server) = (Buffers::new(), Buffers::new());
+    let mut client = Client::start(methods[0], GREETING, &mut of_client.exchange, &mut of_client.room).unwrap();
+    let mut server = Server::start(methods[0], GREETING, &mut of_server.exchange, &mut of_server.room).unwrap();
+    assert_eq!((client.session().id(), client.session().completed()), (&[][..], 0));
+    let mut id = Vec::new();
+    for (i, method) in methods.into_iter().enumerate() {
+        let (fed, kind) = (Fed::new(method), Kind::of(method.sizes().digest_len as u64).unwrap());
+        let mut k = K::new();
+        let done = fed.client(client, &mut k);
+        let other = fed.server(server, &mut K::new());
+        if i == 0 {
+            id = done.h().to_vec();
+        }
+        // in front the version lines, which nobody handed in again
+        assert!(done.hash_input().starts_with(b"\0\0\0\x01c\0\0\0\x01s\0\0\0"));
+        assert_eq!((done.hash_input(), done.h()), (other.hash_input(), &sha(kind, done.hash_input())[..]));
+        for (session, role) in [(done.session(), done.role()), (other.session(), other.role())] {
+            assert_eq!((session.id(), session.completed()), (&id[..], i as u64 + 1), "{:?}", role);
+        }
+        let (mut sends, mut receives) = (Key::new(), Key::new());
+        done.derive(Letter::MacKeyC2s, 100, &mut sends).unwrap();
+        other.derive(Letter::MacKeyC2s, 100, &mut receives).unwrap();
+        let want = key(kind, k.as_bytes(), done.h(), b'E', &id, 100);
+        assert_eq!((sends.as_bytes(), receives.as_bytes()), (&want[..], &want[..]));
+
+        // what is refused is complete as before
+        let (next, ic, is) = (methods[(i + 1) % 4], &[20, i as u8][..], &[20; 300][..]);
+        let done = back(done.again(next, &[], is), Refusal::BadInput);
+        let done = back(done.again(next, ic, &[21]), Refusal::BadInput);
+        done.derive(Letter::MacKeyC2s, 100, &mut receives).unwrap();
+        assert_eq!(receives.as_bytes(), want);
+        client = done.again(next, ic, is).unwrap();
+        server = other.again(next, ic, is).unwrap();
+        assert_eq!((client.session().id(), client.session().completed()), (&id[..], i as u64 + 1));
+    }
+    // the peer's fault ends it for good
+    ended(server.read_init(&[30]), Refusal::PastEnd);
+    assert!(of_server.wiped());
+    drop(client);
+    assert!(of_client.wiped());
+}
+
+#[test]
+fn what_no_type_lets_through_is_refused_by_the_boundary() {
+    let mut b = Buffers::new();
+    // it stays complete in its bytes
+    std::mem::forget(server_at_secret(&mut b).sign(b"g", &mut [0; REPLY], &mut K::new()).unwrap().0);
+    let before = b.exchange;
+    assert_eq!(raw::again(&mut b.exchange, &mut b.room[..ROOM - 1], 1, &[20], &[20]), 3);
+    assert_eq!(raw::again(&mut b.exchange, &mut b.room, 10, &[20], &[20]), 2);
+    assert_eq!(raw::again(&mut b.exchange[1..], &mut b.room, 1, &[20], &[20]), 1);
+    assert_eq!(b.exchange, before);
+    // the last of counts, in its eight bytes
+    b.exchange[156..164].copy_from_slice(&4_294_967_295u64.to_be_bytes());
+    assert_eq!(raw::again(&mut b.exchange, &mut b.room, 1, &[20], &[20]), 23);
+    assert_eq!(Refusal::of(23), Refusal::CountFull);
+    let (mut told, mut id) = (raw::Session::default(), [7; H_SIZE]);
+    assert_eq!(raw::session_id(&b.exchange, &mut told, &mut id), 0);
+    assert_eq!((told, &id[32..]), (raw::Session { id_len: 32, completed: 4_294_967_295 }, &[0; 32][..]));
+    assert_eq!(raw::session_id(&b.exchange[1..], &mut told, &mut id), 1);
+    assert_eq!((told, id), (raw::Session::default(), [0; H_SIZE]));
 }
 
 #[test]
@@ -436,7 +552,7 @@ fn nothing_secret_is_shown() {
     let client = client.verdict(true, true, &mut k).unwrap();
     let mut key = Key::new();
     client.derive(Letter::IvS2c, 16, &mut key).unwrap();
-    write!(shown, "{:?} {:?} {:?} ", client, k, key).unwrap();
+    write!(shown, "{:?} {:?} {:?} {:?} ", client, k, key, client.session()).unwrap();
     drop(client);
     let refused = server_at_secret(&mut b).sign(&[], &mut [0; REPLY], &mut k).map(|_| ()).unwrap_err();
     write!(shown, "{:?} {} ", refused, refused).unwrap();
@@ -446,7 +562,7 @@ fn nothing_secret_is_shown() {
     assert_eq!(
         shown,
         "Given(32 bytes) Done(32 bytes) Failed Exchange { role: 1, method: 1, stage: 4, .. } \
-         Exchange { role: 1, method: 1, stage: 5, .. } K { .. } Key { .. } \
+         Exchange { role: 1, method: 1, stage: 5, .. } K { .. } Key { .. } Session { completed: 1, .. } \
          Refused { refusal: BadInput, .. } a field, outcome, K_PQ or hash handed in has a wrong length or form, \
          a hash would be fed too much, or no key has that letter or length (4) \
          Hash { kind: Sha384, .. }"

@@ -1,9 +1,9 @@
 //! Random calls of an exchange: mostly the one that is due, often with one thing wrong, now and then any other, or a number wider
 //! than any that there is; between them rooms that somebody wrote to, rooms of another length, and exchanges with a byte changed,
-//! of another length, made up as a whole, or put back from an older copy.
+//! with another session, of another length, made up as a whole, or put back from an older copy. A complete one often begins again.
 use crate::random::Random;
 use crate::stored::{exchange_of, EXCHANGE};
-use plain::{Exchange, Stage, H, KEY_MOST, K_RECORD};
+use plain::{Exchange, Session, Stage, COMPLETED_MOST, H, KEY_MOST, K_RECORD};
 
 /// Bytes that repeat: what an output or a room holds before it is lent.
 #[derive(Clone, Debug)]
@@ -31,6 +31,9 @@ pub enum Field {
     Length(usize),
     K(usize),
     H(usize),
+    IdLen,
+    Completed,
+    Id(usize),
 }
 
 #[derive(Clone, Debug)]
@@ -40,7 +43,9 @@ pub enum Call {
     /// Somebody writes into the room.
     Poke(usize, Vec<u8>),
     /// Somebody writes into the exchange.
-    Forge(Field, u16),
+    Forge(Field, u64),
+    /// Somebody writes another session into the exchange.
+    Session(Session),
     /// Other bytes lent for the exchange, of any length.
     Lend(Vec<u8>),
     /// An exchange that no steps made.
@@ -54,6 +59,7 @@ pub enum Call {
     Secret { given: u64, x_count: u64, x: Vec<u8>, kem: u64, k_pq: Vec<u8>, ks: Vec<u8>, s: Vec<u8> },
     Sign { signature: Vec<u8>, out: Filled, k_out: Filled },
     Verdict { signature: u64, host_key: u64, k_out: Filled },
+    Again { method: u64, ic: Vec<u8>, is: Vec<u8> },
     Derive { letter: u64, length: u64, key: Filled },
 }
 
@@ -322,6 +328,57 @@ fn secret(r: &mut Random, role: u8, method: u8) -> Call {
     Call::Secret { given, x_count, x, kem, k_pq, ks, s }
 }
 
+/// A beginning again: mostly one that may be, in another method or in the same.
+fn again(r: &mut Random, running: u8) -> Call {
+    let mut method = if r.once_in(4) { running.into() } else { r.range(1, 9) as u64 };
+    match r.below(24) {
+        0 => method = r.of(&[0, 10, 11, 255, 257]),
+        1 => method = widened(r, method),
+        _ => {}
+    }
+    let (mut ic, mut is) = (kexinit(r), kexinit(r));
+    if r.once_in(12) {
+        let bad = if r.coin() { &mut ic } else { &mut is };
+        match r.below(3) {
+            0 => bad.clear(),
+            1 => bad.resize(4097, 20),
+            _ => bad.splice(..1.min(bad.len()), [r.of(&[0, 19, 21, 30, 20 | 128])]).for_each(drop),
+        }
+    }
+    Call::Again { method, ic, is }
+}
+
+/// Counts of completed exchanges at the edges and beside them.
+pub const COUNTS: [u64; 10] =
+    [0, 1, 2, 65_536, COMPLETED_MOST - 1, COMPLETED_MOST, COMPLETED_MOST + 1, COMPLETED_MOST + 2, 1 << 63 | 1, u64::MAX];
+/// Lengths of an identifier, likewise, and some of which a byte would do.
+pub const ID_LENS: [u64; 14] = [0, 1, 31, 32, 33, 47, 48, 49, 63, 64, 65, 256 + 32, 0x8000 | 64, 65_535];
+/// Those that there are.
+pub const DIGESTS: [usize; 3] = [32, 48, 64];
+
+/// A session that somebody writes: mostly with a count at an edge, and with a length that goes with it.
+fn session(r: &mut Random) -> Session {
+    let completed = match r.below(8) {
+        0 => r.word(),
+        1 => r.of(&COUNTS),
+        2 | 3 => COMPLETED_MOST,
+        4 | 5 => COMPLETED_MOST - 1,
+        _ => r.below(3) as u64,
+    };
+    let id_len = match completed {
+        _ if r.once_in(6) => r.of(&ID_LENS) as usize,
+        0 => 0,
+        _ => r.of(&DIGESTS),
+    };
+    Session { id: any_h(r), id_len, completed }
+}
+
+fn any_h(r: &mut Random) -> [u8; H] {
+    let mut h = [0; H];
+    h.copy_from_slice(&r.bytes(H));
+    h
+}
+
 /// Where keys' lengths end a hash's digest, and what ciphers and MACs want.
 const KEY_LENGTHS: [u64; 16] = [1, 12, 16, 20, 31, 32, 33, 47, 48, 49, 63, 64, 65, 96, 97, 128];
 
@@ -356,25 +413,31 @@ pub fn k_lens(m: &plain::Method) -> (usize, usize) {
     }
 }
 
-/// A complete exchange that no steps made, of this method, with any K and H.
+/// A complete exchange that no steps made, of this method, with any K, H and session.
 pub fn complete(r: &mut Random, role: u8, method: u8) -> Exchange {
     let m = plain::method(method).expect("a method");
     let (least, most) = k_lens(m);
     let (v_c, v_s) = (sized(r, 1, 253), sized(r, 1, 253));
     let (i_c, i_s, k_s) = (sized(r, 1, 4096), sized(r, 1, 4096), sized(r, 1, 2048));
-    let (mut k, mut h) = ([0; K_RECORD], [0; H]);
+    let mut k = [0; K_RECORD];
     k.copy_from_slice(&r.bytes(K_RECORD));
-    h.copy_from_slice(&r.bytes(H));
+    let h = any_h(r);
+    let completed = match r.below(4) {
+        0 => r.of(&[COMPLETED_MOST - 1, COMPLETED_MOST]),
+        1 => r.word() >> 32 | 1,
+        _ => r.range(1, 3) as u64,
+    };
+    let session = Session { id: any_h(r), id_len: r.of(&DIGESTS), completed };
     let len = if r.coin() { most } else { r.range(least, most) };
     k[..4].copy_from_slice(&(len as u32).to_be_bytes());
-    Exchange { role, method, stage: Stage::Complete, lens: [v_c, v_s, i_c, i_s, k_s, m.c_len, m.s_len], k, h }
+    Exchange { role, method, stage: Stage::Complete, lens: [v_c, v_s, i_c, i_s, k_s, m.c_len, m.s_len], k, h, session }
 }
 
 /// One, often with one thing that does not fit.
 fn record(r: &mut Random) -> Call {
     let (role, method) = (r.range(1, 2) as u8, r.range(1, 9) as u8);
     let mut e = complete(r, role, method);
-    match r.below(14) {
+    match r.below(15) {
         0 => e.role = r.of(&[0, 3, 255]),
         1 => e.method = r.below(12) as u8,
         2 => e.method = r.byte(),
@@ -389,12 +452,16 @@ fn record(r: &mut Random) -> Call {
         }
         7 => e.k[3] = r.below(80) as u8,
         8 => e.k[r.below(3)] = r.byte(),
+        9 => e.session = session(r),
         _ => {}
     }
     Call::Record(e)
 }
 
-/// The step with this number: own C, INIT, REPLY, secret, signature, verdict; or a key.
+/// How many `step` makes.
+const STEPS: usize = 8;
+
+/// The step with this number: own C, INIT, REPLY, secret, signature, verdict; or a key, or a beginning again.
 fn step(r: &mut Random, which: usize, role: u8, method: u8) -> Call {
     match which {
         0 => Call::OwnC { c: c_value(r, method), out: output(r, plain::INIT_OUT) },
@@ -403,6 +470,7 @@ fn step(r: &mut Random, which: usize, role: u8, method: u8) -> Call {
         3 => secret(r, role, method),
         4 => Call::Sign { signature: blob(r), out: output(r, plain::REPLY_OUT), k_out: output(r, plain::K_RECORD) },
         6 => derive(r),
+        7 => again(r, method),
         _ => {
             let no = r.once_in(6);
             let which = r.below(3);
@@ -425,7 +493,7 @@ pub fn start(r: &mut Random) -> Call {
 }
 
 fn forge(r: &mut Random) -> Call {
-    let field = match r.below(10) {
+    let field = match r.below(13) {
         0 => Field::Role,
         1 => Field::Method,
         2 => Field::Stage,
@@ -434,16 +502,21 @@ fn forge(r: &mut Random) -> Call {
         5 => Field::K(r.below(71)),
         6 => Field::Mark,
         7 => Field::H(r.below(64)),
+        8 => Field::IdLen,
+        9 => Field::Completed,
+        10 => Field::Id(r.below(64)),
         _ => Field::Length(r.below(7)),
     };
     let to = match field {
-        Field::Mark => r.of(&[0, 1, 3, 130, 255]),
+        Field::Mark => r.of(&[0, 1, 2, 4, 131, 255]),
         Field::Role => r.of(&[0, 1, 2, 3, 255]),
-        Field::Method => r.below(12) as u16,
+        Field::Method => r.below(12) as u64,
         Field::Stage => r.of(&[0, 1, 2, 3, 4, 5, 6, 7, 8, 255]),
         Field::Fail => r.of(&[0, 0, 1, 16, 255]),
         Field::K(_) => r.of(&[0, 1, 4, 32, 33, 36, 37, 255]),
-        Field::H(_) => r.byte().into(),
+        Field::H(_) | Field::Id(_) => r.byte().into(),
+        Field::IdLen => r.of(&ID_LENS),
+        Field::Completed => r.of(&COUNTS),
         Field::Length(_) => r.of(&[
             0, 1, 2, 32, 56, 65, 97, 133, 253, 254, 1120, 1216, 2048, 2049, 4096, 4097, 14_156, 0x7fff, 0xfffc, 0xffff,
         ]),
@@ -460,14 +533,40 @@ fn other_bytes(r: &mut Random, now: &[u8]) -> Call {
             bytes.pop();
         }
         2 => bytes.push(r.byte()),
-        _ => bytes.resize(r.of(&[0, 1, 19, 90, 180, 4096]), 0),
+        _ => bytes.resize(r.of(&[0, 1, 19, 90, 154, 180, 4096]), 0),
     }
     Call::Lend(bytes)
 }
 
+/// How many calls a list has, and whether its host is careful: those are long, and seldom does anybody interfere.
+pub fn length(r: &mut Random) -> (usize, bool) {
+    match r.once_in(40) {
+        true => (r.range(14, 32), true),
+        false => (r.range(2, 11), false),
+    }
+}
+
+/// Somebody writes over a few bytes of the room, up to `within`.
+fn poke(r: &mut Random, within: usize) -> Call {
+    let n = r.range(1, 12).min(within);
+    let at = r.below(within - n + 1);
+    Call::Poke(at, if r.once_in(4) { vec![r.of(&[0, 10, 13]); n] } else { r.bytes(n) })
+}
+
+/// What may come between two exchanges of a session: V's or a room that somebody changed, a count at its end.
+fn between(r: &mut Random, e: &Exchange, room_len: usize) -> Option<Call> {
+    let versions = 8 + e.lens[0] + e.lens[1];
+    match r.below(24) {
+        0 if (1..=room_len).contains(&versions) => Some(poke(r, versions)),
+        1 => Some(Call::Room(filled(r, plain::ROOM - 1))),
+        2 => Some(Call::Forge(Field::Completed, r.of(&[COMPLETED_MOST - 1, COMPLETED_MOST]))),
+        _ => None,
+    }
+}
+
 /// The next call of a list, where these bytes are lent for the exchange, a room of this length, and so many older copies are kept.
-pub fn next(r: &mut Random, exchange: &[u8], room_len: usize, kept: usize) -> Call {
-    if kept > 0 && r.once_in(5) {
+pub fn next(r: &mut Random, exchange: &[u8], room_len: usize, kept: usize, careful: bool) -> Call {
+    if kept > 0 && r.once_in(if careful { 40 } else { 5 }) {
         return Call::Old { copy: r.below(kept), room: r.coin() };
     }
     let e = match exchange_of(exchange) {
@@ -477,24 +576,27 @@ pub fn next(r: &mut Random, exchange: &[u8], room_len: usize, kept: usize) -> Ca
         None if r.coin() => return start(r),
         None => Exchange { role: r.range(1, 2) as u8, method: r.range(1, 9) as u8, ..Exchange::default() },
     };
-    match r.below(64) {
+    match r.below(if careful { 512 } else { 64 }) {
         0 => return forge(r),
         1 => return start(r),
         2 if room_len > 0 => {
             // half of them where the first fields stand
-            let n = r.range(1, 12).min(room_len);
             let within = if r.coin() { room_len } else { room_len.min(800) };
-            let at = r.below(within.max(n) - n + 1);
-            return Call::Poke(at, r.bytes(n));
+            return poke(r, within);
         }
         3 => return Call::Room(room(r)),
         4 => return other_bytes(r, exchange),
         5 => return record(r),
         6..=11 => {
-            let which = r.below(7);
+            let which = r.below(STEPS);
             return step(r, which, e.role, e.method);
         }
+        12 => return Call::Session(session(r)),
         _ => {}
+    }
+    // a host that is careful lends enough
+    if careful && room_len < plain::ROOM && r.coin() {
+        return Call::Room(filled(r, plain::ROOM));
     }
     let due = match (e.stage, e.role) {
         (Stage::Started, 1) => 0,
@@ -503,8 +605,17 @@ pub fn next(r: &mut Random, exchange: &[u8], room_len: usize, kept: usize) -> Ca
         (Stage::Init, _) | (Stage::Reply, _) => 3,
         (Stage::Secret, 2) => 4,
         (Stage::Secret, _) => 5,
-        (Stage::Complete, _) if !r.once_in(4) => 6,
-        _ => r.below(7),
+        (Stage::Complete, _) => {
+            if let Some(call) = between(r, &e, room_len) {
+                return call;
+            }
+            match r.below(8) {
+                0..=3 => 6,
+                4..=6 => 7,
+                _ => r.below(STEPS),
+            }
+        }
+        _ => r.below(STEPS),
     };
     step(r, due, e.role, e.method)
 }

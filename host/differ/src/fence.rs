@@ -39,6 +39,7 @@ unsafe impl Numbers for raw::Choice {}
 unsafe impl Numbers for raw::Reply {}
 unsafe impl Numbers for raw::Signed {}
 unsafe impl Numbers for raw::Progress {}
+unsafe impl Numbers for raw::Session {}
 
 /// One buffer, which stays lent as it is until the next.
 pub struct Fence {
@@ -147,7 +148,7 @@ mod tests {
     #[test]
     fn one_byte_too_far_ends_the_run() {
         let mut fence = Fence::new();
-        for len in [0, 1, 154, SPACE] {
+        for len in [0, 1, 228, SPACE] {
             let s = fence.lend(&vec![5; len], false);
             assert_eq!(s, vec![5; len]);
             let at = s.as_mut_ptr();

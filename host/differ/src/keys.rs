@@ -1,7 +1,7 @@
 //! Keys on both, one thing at a time: every letter and every length, in outputs that are too short, just long enough and longer, in every
-//! method and role; and complete exchanges of which one byte, one length or K's length is another. After each call its number, every byte of
-//! the output, and the exchange, which stays.
-use crate::calls::{complete, k_lens};
+//! method and role; complete exchanges of which one byte, one length, K's length or the session is another; and identifiers of every hash's
+//! length. After each call its number, every byte of the output, and the exchange, which stays.
+use crate::calls::{complete, k_lens, COUNTS, DIGESTS, ID_LENS};
 use crate::codecs::hex;
 use crate::fence::Fence;
 use crate::model::derived;
@@ -76,7 +76,7 @@ fn asked(core: &mut Lent, e: &[u8], tally: &mut Tally) -> Result<(), String> {
 /// Exchanges of which one thing is another, from one that is complete.
 fn changed(core: &mut Lent, e: &Exchange, m: &Method, tally: &mut Tally) -> Result<(), String> {
     let bytes = bytes_of(e);
-    // any byte: those of K and of H are in the key, those behind them are not, and those of lengths may fit again
+    // any byte: those of K, of H and of the identifier are in the key, those behind them are not, and those of lengths may fit again
     for at in 0..EXCHANGE {
         for by in [1, 2, 0x80, 0xff] {
             let mut other = bytes;
@@ -105,8 +105,15 @@ fn changed(core: &mut Lent, e: &Exchange, m: &Method, tally: &mut Tally) -> Resu
             core.judged(&bytes_of(&other), tally)?;
         }
     }
+    for completed in COUNTS {
+        for id_len in ID_LENS {
+            let mut other = *e;
+            (other.session.completed, other.session.id_len) = (completed, id_len as usize);
+            core.judged(&bytes_of(&other), tally)?;
+        }
+    }
     let longer = [&bytes[..], &bytes].concat();
-    for len in (0..=EXCHANGE + 2).chain([180, 2 * EXCHANGE]) {
+    for len in (0..=EXCHANGE + 2).chain([2 * EXCHANGE]) {
         core.judged(&longer[..len], tally)?;
     }
     Ok(())
@@ -125,8 +132,18 @@ pub fn edges(core: &mut Lent, tally: &mut Tally) -> Result<(), String> {
             for len in least..=most {
                 let mut e = complete(&mut r, role, method);
                 e.k[..4].copy_from_slice(&(len as u32).to_be_bytes());
+                e.session.id_len = DIGESTS[len % DIGESTS.len()];
                 for letter in LETTERS {
                     core.both(&bytes_of(&e), letter, KEY_MOST as u64, KEY_MOST, tally)?;
+                }
+            }
+            // the identifier in each length that there is, with each of its bytes and of those behind it another
+            for id_len in DIGESTS {
+                let mut e = complete(&mut r, role, method);
+                e.session.id_len = id_len;
+                for at in 0..e.session.id.len() {
+                    e.session.id[at] ^= 1 << (at % 8);
+                    core.both(&bytes_of(&e), 70, KEY_MOST as u64, KEY_MOST, tally)?;
                 }
             }
         }

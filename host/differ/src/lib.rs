@@ -7,5 +7,6 @@ pub mod keys;
 pub mod lists;
 pub mod model;
 pub mod random;
+pub mod sessions;
 pub mod stored;
 pub mod tally;

@@ -1,9 +1,9 @@
 //! differ [--lists N] [--rounds N] [--hashes N] [--seed N] [--list I | --round I | --hash I] [--progress]
 //!
-//! Random lists of calls, keys one thing at a time, lists of calls of a hash, and rounds of codecs, methods, KEXINIT and choice on the compiled
+//! Random lists of calls, keys and sessions one thing at a time, lists of calls of a hash, and rounds of codecs, methods, KEXINIT and choice on the compiled
 //! core and on the plain implementation. The first difference ends the run with status 1; so does a number that an entry never gave, or that is not its own, and a thing to try
 //! that was never tried. A byte touched outside of what was lent ends it with a signal.
-use differ::{codecs, hashes, keys, lists, tally::Tally};
+use differ::{codecs, hashes, keys, lists, sessions, tally::Tally};
 use std::process::ExitCode;
 
 struct Asked {
@@ -85,14 +85,16 @@ fn run(a: &Asked) -> Result<bool, String> {
     }
     let mut lent_to_keys = keys::Lent::default();
     keys::edges(&mut lent_to_keys, &mut tally)?;
+    let mut of_sessions = sessions::Tried::default();
+    sessions::edges(&mut of_sessions, &mut tally)?;
     hashes::edges(&mut lent_to_hashes, &mut tally, &mut tried)?;
     for i in 0..a.hashes {
         hashes::list(a.seed, i, &mut lent_to_hashes, &mut tally, &mut tried)?;
         tell("hashes", i, a.hashes);
     }
     println!(
-        "seed {}: {} rounds of codecs, KEXINIT and choice, {} lists of calls, {} keys one by one, {} lists of a hash, no difference",
-        a.seed, a.rounds, a.lists, lent_to_keys.count, a.hashes
+        "seed {}: {} rounds of codecs, KEXINIT and choice, {} lists of calls, {} keys and {} calls on sessions one by one, {} lists of a hash, no difference",
+        a.seed, a.rounds, a.lists, lent_to_keys.count, of_sessions.count, a.hashes
     );
     println!("lists:");
     let all = seen.print();

@@ -1,16 +1,18 @@
 //! The plain implementation behind the boundary: document 01's answer to a call, told as the header says.
-use crate::calls::Call;
-use crate::stored::{bytes_of, exchange_of, forge, numbers_of, EXCHANGE};
+use crate::calls::{self, Call};
+use crate::random::Random;
+use crate::stored::{bytes_of, exchange_of, forge, numbers_of, put_session, EXCHANGE};
 use plain::{Answer, Classical, Exchange, Kem, Part, H};
 
 /// What a call gave, on either side: its number, what it told through lent numbers, what the calls of their own for the four
-/// parts of a payload gave (number, start and length of each), and the state after it.
+/// parts of a payload gave (number, start and length of each), and the state and the session after it.
 #[derive(Clone, Copy, Debug, Default, PartialEq)]
 pub struct Given {
     pub number: u64,
     pub told: [u64; 6],
     pub parts: [[u64; 3]; 4],
     pub state: [u64; 5],
+    pub session: [u64; 3],
 }
 
 /// What is lent on the plain implementation's side.
@@ -21,6 +23,7 @@ pub struct Side {
     pub out: Vec<u8>,
     pub k_out: Vec<u8>,
     pub h: Vec<u8>,
+    pub id: Vec<u8>,
     /// A room to try a step in.
     tried: Vec<u8>,
 }
@@ -60,6 +63,11 @@ impl Side {
         Side { exchange: bytes_of(&Exchange::default()).to_vec(), ..Side::default() }
     }
 
+    /// Copies of an exchange's bytes and of a room.
+    pub fn at(exchange: &[u8], room: &[u8]) -> Side {
+        Side { exchange: exchange.to_vec(), room: room.to_vec(), ..Side::default() }
+    }
+
     /// Lends the outputs of a call afresh, and does what is no call of the core: a room or an exchange lent, or somebody's hand
     /// in them.
     fn before(&mut self, call: &Call) {
@@ -70,6 +78,7 @@ impl Side {
             Call::Room(f) => self.room = f.bytes(),
             Call::Poke(at, bytes) => self.room[*at..at + bytes.len()].copy_from_slice(bytes),
             Call::Forge(field, to) => forge(&mut self.exchange, *field, *to),
+            Call::Session(session) => put_session(&mut self.exchange, session),
             Call::Lend(bytes) => self.exchange.clone_from(bytes),
             Call::Record(e) => self.exchange = bytes_of(e).to_vec(),
             Call::OwnC { out, .. } | Call::Derive { key: out, .. } => self.out = out.bytes(),
@@ -85,11 +94,40 @@ impl Side {
     }
 
     /// Stage, fail number, role and method, behind the number of asking for them.
-    fn state(&self) -> [u64; 5] {
-        exchange_of(&self.exchange).map_or([1, 0, 0, 0, 0], |e| {
+    fn state(&self, e: Option<&Exchange>) -> [u64; 5] {
+        e.map_or([1, 0, 0, 0, 0], |e| {
             let (stage, fail) = numbers_of(e.stage);
             [0, stage.into(), fail.into(), e.role.into(), e.method.into()]
         })
+    }
+
+    /// The identifier's length and the count, behind the number of asking for them, and the identifier: nothing where the length does
+    /// not go with the count, at whatever stage.
+    fn session(&mut self, e: Option<&Exchange>) -> [u64; 3] {
+        let told = e.map(|e| e.session).filter(|s| match s.completed {
+            0 => s.id_len == 0,
+            _ => matches!(s.id_len, 32 | 48 | 64),
+        });
+        let session = told.unwrap_or_default();
+        self.id.clear();
+        self.id.extend_from_slice(&session.id);
+        [told.is_none().into(), session.id_len as u64, session.completed]
+    }
+
+    /// The next call of a list. A careful host's is mostly one that is accepted, as a try on another side shows.
+    pub fn next(&self, r: &mut Random, kept: usize, careful: bool, other: &mut Side) -> Call {
+        for _ in 0..3 {
+            let call = calls::next(r, &self.exchange, self.room.len(), kept, careful);
+            if !careful || r.once_in(24) {
+                return call;
+            }
+            other.exchange.clone_from(&self.exchange);
+            other.room.clone_from(&self.room);
+            if other.answer(&call).number == 0 {
+                return call;
+            }
+        }
+        calls::next(r, &self.exchange, self.room.len(), kept, careful)
     }
 
     /// What INIT's and REPLY's steps would answer, tried in a copy of the room, and the parts that they would tell.
@@ -104,13 +142,24 @@ impl Side {
         [(init, c), (reply, k_s), (reply, s), (reply, signature)].map(|(number, p)| [number, p.start as u64, p.len as u64])
     }
 
-    /// The call on the plain implementation. Bytes that no exchange has are answered 1 and stay; the calls for parts are made
-    /// with any payload.
+    /// The call on the plain implementation, with the calls for parts, which are made with any payload, and what is told after it.
     pub fn call(&mut self, call: &Call) -> Given {
+        let parts = match (call, exchange_of(&self.exchange)) {
+            (Call::Init(p) | Call::Reply(p), Some(e)) => self.parts(&e, p),
+            (Call::Init(_) | Call::Reply(_), None) => [[1, 0, 0]; 4],
+            _ => Default::default(),
+        };
+        let given = self.answer(call);
+        let e = exchange_of(&self.exchange);
+        Given { parts, state: self.state(e.as_ref()), session: self.session(e.as_ref()), ..given }
+    }
+
+    /// The call itself. Bytes that no exchange has are answered 1 and stay.
+    fn answer(&mut self, call: &Call) -> Given {
         self.before(call);
         let mut given = Given::default();
         match call {
-            Call::Room(_) | Call::Poke(..) | Call::Forge(..) | Call::Lend(_) | Call::Record(_) | Call::Old { .. } => {}
+            Call::Room(_) | Call::Poke(..) | Call::Forge(..) | Call::Session(_) | Call::Lend(_) | Call::Record(_) | Call::Old { .. } => {}
             Call::Start { .. } if self.exchange.len() != EXCHANGE => given.number = 1,
             Call::Start { role, method, vc, vs, ic, is } => {
                 let a = plain::start(byte(*role), byte(*method), vc, vs, ic, is, &mut self.room);
@@ -120,23 +169,14 @@ impl Side {
             Call::Derive { letter, length, .. } => given.number = derived(&self.exchange, *letter, *length, &mut self.out),
             _ => match exchange_of(&self.exchange) {
                 Some(e) => given = self.step(e, call),
-                None => {
-                    given.number = 1;
-                    if matches!(call, Call::Init(_) | Call::Reply(_)) {
-                        given.parts = [[1, 0, 0]; 4];
-                    }
-                }
+                None => given.number = 1,
             },
         }
-        given.state = self.state();
         given
     }
 
     fn step(&mut self, e: Exchange, call: &Call) -> Given {
         let mut given = Given::default();
-        if let Call::Init(p) | Call::Reply(p) = call {
-            given.parts = self.parts(&e, p);
-        }
         let room = &mut self.room;
         let mut parts = [Part::default(); 3];
         let a = match call {
@@ -157,6 +197,7 @@ impl Side {
             }
             Call::Sign { signature, .. } => plain::sign(e, room, signature, &mut self.out, &mut self.k_out),
             Call::Verdict { signature, host_key, .. } => plain::verdict(e, room, *signature == 1, *host_key == 1, &mut self.k_out),
+            Call::Again { method, ic, is } => plain::again(e, byte(*method), ic, is, room),
             _ => unreachable!("no step"),
         };
         given.number = a.number.into();

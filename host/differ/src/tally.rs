@@ -3,7 +3,7 @@
 /// What INIT's and REPLY's steps answer, and the calls that tell of them.
 const READ: &[u64] = &[0, 1, 3, 10, 11, 12, 13, 14, 15];
 
-pub const ENTRIES: [(&str, &[u64]); 27] = [
+pub const ENTRIES: [(&str, &[u64]); 29] = [
     ("read_string", &[0, 12]),
     ("write_string", &[0, 4, 5]),
     ("read_mpint", &[0, 12, 22]),
@@ -22,11 +22,13 @@ pub const ENTRIES: [(&str, &[u64]); 27] = [
     ("take_secret", &[0, 1, 3, 4, 16, 17]),
     ("sign", &[0, 1, 3, 4, 5]),
     ("verdict", &[0, 1, 3, 5, 18]),
+    ("again", &[0, 1, 2, 3, 4, 23]),
     ("init_c", READ),
     ("reply_host_key", READ),
     ("reply_s", READ),
     ("reply_signature", READ),
     ("state", &[0, 1]),
+    ("session_id", &[0, 1]),
     ("derive", &[0, 1, 4, 5]),
     ("hash_start", &[0, 4]),
     ("hash_feed", &[0, 4]),

@@ -1,4 +1,4 @@
-//! One exchange as client or server: its record, its room and its steps.
+//! One exchange as client or server: its record, its room, its steps, and how it begins again.
 //!
 //! Every step judges first, in the order of the numbers, and writes only when nothing is left to refuse.
 
@@ -15,6 +15,8 @@ pub const K_RECORD: usize = 71;
 pub const K_PQ: usize = 32;
 /// H as it is handed out, zeros after the digest.
 pub const H: usize = DIGEST;
+/// The most exchanges that a session counts.
+pub const COMPLETED_MOST: u64 = 4_294_967_295;
 
 const CLIENT: u8 = 1;
 const SERVER: u8 = 2;
@@ -45,6 +47,37 @@ impl Default for Stage {
     }
 }
 
+/// What a record keeps of all the exchanges of its history: zeros until one is complete.
+#[derive(Clone, Copy, PartialEq, Eq, Debug)]
+pub struct Session {
+    /// The session identifier: the first completed H, zeros after its digest with it.
+    pub id: [u8; H],
+    /// The length of that digest; a later exchange may have another.
+    pub id_len: usize,
+    /// How many exchanges were completed.
+    pub completed: u64,
+}
+
+impl Default for Session {
+    fn default() -> Self {
+        Session { id: [0; H], id_len: 0, completed: 0 }
+    }
+}
+
+impl Session {
+    /// Whether the count goes with the stage and the identifier's length with the count. A complete exchange was counted;
+    /// one that is not must still be countable.
+    fn fits(&self, stage: Stage) -> bool {
+        let count_is_good = match stage {
+            Stage::Complete => (1..=COMPLETED_MOST).contains(&self.completed),
+            _ => self.completed < COMPLETED_MOST,
+        };
+        // which method came first is not recorded, so any digest's length will do
+        let id_len_is_good = if self.completed == 0 { self.id_len == 0 } else { matches!(self.id_len, 32 | 48 | 64) };
+        count_is_good && id_len_is_good
+    }
+}
+
 /// The record of an exchange. The bytes of its fields stand in the room, found by the recorded lengths.
 #[derive(Clone, Copy, PartialEq, Eq, Debug)]
 pub struct Exchange {
@@ -57,11 +90,21 @@ pub struct Exchange {
     pub k: [u8; K_RECORD],
     /// H with zeros after the digest; all zeros until the secret step.
     pub h: [u8; H],
+    /// Only a start forgets it.
+    pub session: Session,
 }
 
 impl Default for Exchange {
     fn default() -> Self {
-        Exchange { role: 0, method: 0, stage: Stage::default(), lens: [0; 7], k: [0; K_RECORD], h: [0; H] }
+        Exchange {
+            role: 0,
+            method: 0,
+            stage: Stage::default(),
+            lens: [0; 7],
+            k: [0; K_RECORD],
+            h: [0; H],
+            session: Session::default(),
+        }
     }
 }
 
@@ -106,13 +149,14 @@ fn unchanged(number: u8, exchange: Exchange) -> Answer {
 }
 
 /// A peer fault fills the whole room, the K record and H with zeros and fails the exchange for good, recorded lengths 0.
+/// What the session has stays.
 fn refused(number: u8, e: Exchange, room: &mut [u8]) -> Answer {
     if number < FIRST_PEER_FAULT {
         return unchanged(number, e);
     }
     room.fill(0);
     let stage = Stage::Failed(number);
-    unchanged(number, Exchange { role: e.role, method: e.method, stage, ..Exchange::default() })
+    unchanged(number, Exchange { role: e.role, method: e.method, stage, session: e.session, ..Exchange::default() })
 }
 
 fn v_len_is_good(len: usize) -> bool {
@@ -148,8 +192,8 @@ fn k_len_is_good(row: &Method, k: &[u8; K_RECORD]) -> bool {
     }
 }
 
-/// Whether the recorded lengths fit the stage and the method; with these no sum of them leaves the room. The last step
-/// leaves them as the secret step did.
+/// Whether the recorded lengths fit the stage and the method, with these no sum of them leaves the room, and the session
+/// the stage. The last step leaves the lengths as the secret step did.
 fn fits(e: &Exchange, row: &Method) -> bool {
     let [v_c, v_s, i_c, i_s, k_s, c, s] = e.lens;
     let rest = match e.stage {
@@ -161,7 +205,8 @@ fn fits(e: &Exchange, row: &Method) -> bool {
         }
         Stage::Failed(_) => false, // nothing is due
     };
-    rest && v_len_is_good(v_c) && v_len_is_good(v_s) && i_len_is_good(i_c) && i_len_is_good(i_s)
+    let front = v_len_is_good(v_c) && v_len_is_good(v_s) && i_len_is_good(i_c) && i_len_is_good(i_s);
+    front && rest && e.session.fits(e.stage)
 }
 
 /// Judges 1, then 3: the step of this role after this stage. Anyone can set a record's fields, so one that does not
@@ -197,10 +242,14 @@ fn add_k_s_and_s(e: &mut Exchange, room: &mut [u8], k_s: &[u8], s: &[u8]) {
     e.lens[6] = s.len();
 }
 
-/// Starting checks 2, 3, 4. A refused start hands back an exchange failed with its number, role and method 0.
+fn i_is_good(i: &[u8]) -> bool {
+    i_len_is_good(i.len()) && i[0] == KEXINIT
+}
+
+/// Starting checks 2, 3, 4. A refused start hands back an exchange failed with its number, role and method 0. Either way
+/// a new history begins.
 pub fn start(role: u8, method: u8, vc: &[u8], vs: &[u8], ic: &[u8], is: &[u8], room: &mut [u8]) -> Answer {
     let v_is_good = |v: &[u8]| v_len_is_good(v.len()) && !v.iter().any(|byte| matches!(byte, 0 | 10 | 13));
-    let i_is_good = |i: &[u8]| i_len_is_good(i.len()) && i[0] == KEXINIT;
 
     let number = if !matches!(role, CLIENT | SERVER) || methods::method(method).is_none() {
         2
@@ -221,6 +270,36 @@ pub fn start(role: u8, method: u8, vc: &[u8], vs: &[u8], ic: &[u8], is: &[u8], r
     }
     let lens = [vc.len(), vs.len(), ic.len(), is.len(), 0, 0, 0];
     accepted(0, Exchange { role, method, stage: Stage::Started, lens, ..Exchange::default() })
+}
+
+/// A complete exchange begins again: the same role, any method, new I_C and I_S. Checks 1, 2, 3, 4, 23. The V's stay as
+/// they stand in the room, unjudged, the I's follow them, and the bytes behind them stay.
+pub fn again(e: Exchange, method: u8, ic: &[u8], is: &[u8], room: &mut [u8]) -> Answer {
+    let number = if completed(&e).is_none() {
+        1
+    } else if methods::method(method).is_none() {
+        2
+    } else if room.len() < ROOM {
+        3
+    } else if !(i_is_good(ic) && i_is_good(is)) {
+        4
+    } else if e.session.completed == COMPLETED_MOST {
+        23
+    } else {
+        0
+    };
+    if number != 0 {
+        return unchanged(number, e);
+    }
+
+    let [v_c, v_s, ..] = e.lens;
+    let mut at = 4 + v_c + 4 + v_s;
+    for field in [ic, is] {
+        at = put_string(room, at, field);
+    }
+    let lens = [v_c, v_s, ic.len(), is.len(), 0, 0, 0];
+    let (role, session) = (e.role, e.session);
+    accepted(0, Exchange { role, method, stage: Stage::Started, lens, session, ..Exchange::default() })
 }
 
 /// The client's own C, which writes INIT.
@@ -423,12 +502,24 @@ fn write_k(k: &[u8; K_RECORD], k_out: &mut [u8]) -> usize {
     k_len(k)
 }
 
+/// What the last step leaves: an exchange more is counted, and the first one's H becomes the session identifier.
+fn complete(e: Exchange, row: &Method) -> Exchange {
+    let mut session = e.session;
+    if session.completed == 0 {
+        session.id = e.h;
+        session.id_len = row.digest_len;
+    }
+    session.completed += 1; // it fits, so it is below the most
+    Exchange { stage: Stage::Complete, session, ..e }
+}
+
 /// The server's signature, which writes REPLY and K. K_S and S are taken from the room as they stand there, with length
 /// bytes from the recorded lengths.
 pub fn sign(e: Exchange, room: &[u8], signature: &[u8], out: &mut [u8], k_out: &mut [u8]) -> Answer {
-    if let Err(number) = due(&e, SERVER, Stage::Secret, room) {
-        return unchanged(number, e);
-    }
+    let row = match due(&e, SERVER, Stage::Secret, room) {
+        Ok(row) => row,
+        Err(number) => return unchanged(number, e),
+    };
     if !signature_len_is_good(signature.len()) {
         return unchanged(4, e);
     }
@@ -443,14 +534,15 @@ pub fn sign(e: Exchange, room: &[u8], signature: &[u8], out: &mut [u8], k_out: &
     let at = put_string(out, at, s.of(room));
     let count = put_string(out, at, signature);
     let second = write_k(&e.k, k_out);
-    Answer { second, ..accepted(count, Exchange { stage: Stage::Complete, ..e }) }
+    Answer { second, ..accepted(count, complete(e, row)) }
 }
 
 /// The client's verdict, two yes/no, which writes K.
 pub fn verdict(e: Exchange, room: &mut [u8], signature: bool, host_key: bool, k_out: &mut [u8]) -> Answer {
-    if let Err(number) = due(&e, CLIENT, Stage::Secret, room) {
-        return unchanged(number, e);
-    }
+    let row = match due(&e, CLIENT, Stage::Secret, room) {
+        Ok(row) => row,
+        Err(number) => return unchanged(number, e),
+    };
     if k_out.len() < K_RECORD {
         return unchanged(5, e);
     }
@@ -458,12 +550,25 @@ pub fn verdict(e: Exchange, room: &mut [u8], signature: bool, host_key: bool, k_
         return refused(18, e, room);
     }
     let count = write_k(&e.k, k_out);
-    accepted(count, Exchange { stage: Stage::Complete, ..e })
+    accepted(count, complete(e, row))
 }
 
-/// What keys are derived from: the method, K and H as the record has them, of an exchange that is complete and fits.
-pub(crate) fn completed(e: &Exchange) -> Option<(&'static Method, &[u8], &[u8])> {
+/// What keys are derived from, as the record has it.
+pub(crate) struct Completed<'a> {
+    pub row: &'static Method,
+    pub k: &'a [u8],
+    pub h: &'a [u8],
+    pub identifier: &'a [u8],
+}
+
+/// An exchange that is complete and fits.
+pub(crate) fn completed(e: &Exchange) -> Option<Completed<'_>> {
     let row = methods::method(e.method)?;
     let complete = matches!(e.role, CLIENT | SERVER) && e.stage == Stage::Complete && fits(e, row);
-    complete.then(|| (row, &e.k[..k_len(&e.k)], &e.h[..row.digest_len]))
+    complete.then(|| Completed {
+        row,
+        k: &e.k[..k_len(&e.k)],
+        h: &e.h[..row.digest_len],
+        identifier: &e.session.id[..e.session.id_len],
+    })
 }

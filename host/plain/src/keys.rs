@@ -1,6 +1,6 @@
 //! The six keys of a connection (RFC 4253, section 7.2).
 
-use crate::exchange::{completed, Exchange};
+use crate::exchange::{completed, Completed, Exchange};
 use crate::sha2::hash_start;
 
 /// The longest key that is derived.
@@ -32,9 +32,9 @@ pub fn key_of(kind: u8, k: &[u8], h: &[u8], letter: u8, identifier: &[u8], key: 
 }
 
 /// Derives a key of a complete exchange to the beginning of an output, whose other bytes stay; on a refusal all of them
-/// do. Judges 1, 4, 5. Until an exchange can begin again the session identifier is its H.
+/// do. Judges 1, 4, 5. The hash is the running method's; the session identifier has its own length, by the first one's.
 pub fn derive(e: &Exchange, letter: u8, length: usize, out: &mut [u8]) -> u8 {
-    let Some((row, k, h)) = completed(e) else {
+    let Some(Completed { row, k, h, identifier }) = completed(e) else {
         return 1;
     };
     if !(b'A'..=b'F').contains(&letter) || !(1..=KEY_MOST).contains(&length) {
@@ -43,6 +43,6 @@ pub fn derive(e: &Exchange, letter: u8, length: usize, out: &mut [u8]) -> u8 {
     let Some(key) = out.get_mut(..length) else {
         return 5;
     };
-    key_of(row.digest_len as u8, k, h, letter, h, key);
+    key_of(row.digest_len as u8, k, h, letter, identifier, key);
     0
 }

@@ -16,8 +16,8 @@ mod wire;
 
 pub use choice::{choose, Choice};
 pub use exchange::{
-    init_c, own_c, read_init, read_reply, reply_parts, sign, start, take_secret, verdict, Answer, Classical, Exchange,
-    Kem, Stage, H, INIT_OUT, K_PQ, K_RECORD, REPLY_OUT, ROOM,
+    again, init_c, own_c, read_init, read_reply, reply_parts, sign, start, take_secret, verdict, Answer, Classical,
+    Exchange, Kem, Session, Stage, COMPLETED_MOST, H, INIT_OUT, K_PQ, K_RECORD, REPLY_OUT, ROOM,
 };
 pub use kexinit::{list_is_good, next_name, open_list, write_kexinit, Cursor, Next, Opened};
 pub use keys::{derive, key_of, KEY_MOST};

@@ -134,9 +134,14 @@ fn an_exchange_as_client_and_as_server() {
     let mut k = string(&[1; 32]);
     k.resize(71, 0);
     let h: Vec<u8> = (0..64).map(|at| u8::from_str_radix(&h[2 * at..2 * at + 2], 16).unwrap()).collect();
-    let tail = format!(" k={} h={} room={}", digest(&k), digest(&h), digest(&room));
+    // the identifier comes with the last step
+    let tail = |id_len: usize, id: &[u8], count: u64| {
+        let (k, h, id, room) = (digest(&k), digest(&h), digest(id), digest(&room));
+        format!(" k={k} h={h} sid={id_len}:{id} n={count} room={room}")
+    };
+    let (early, tail) = (tail(0, &[0; 64], 0), tail(32, &h, 1));
     let k_out = format!("out=71:{}", digest(&k));
-    assert!(lines[4].ends_with(&tail) && lines[9].ends_with(&tail));
+    assert!(lines[4].ends_with(&early) && lines[9].ends_with(&early));
     assert_eq!(lines[5], format!("0 36 {k_out} | ex 1.1.complete.0.1,1,1,2,1,32,32{tail}"));
     k.push(0xff);
     assert!(lines[10].contains(&format!("out=72:{}", digest(&k))));
@@ -149,24 +154,42 @@ fn without(lines: Vec<String>, later: &[&str]) -> Vec<String> {
     lines.iter().map(|line| line.split(' ').filter(|word| !is_later(word)).collect::<Vec<_>>().join(" ")).collect()
 }
 
+/// The answers to a script of the time when the session identifier was H: where it writes over H, the identifier is
+/// written over with it.
+fn with_h_for_identifier(script: &str) -> Vec<String> {
+    let (mut lines, mut is_its_own) = (String::new(), vec![]);
+    for line in script.lines().filter(|line| !line.starts_with('#')) {
+        let byte = line.strip_prefix("set h").map(|rest| format!("set s{rest}\n"));
+        let also = byte.or_else(|| line.strip_prefix("put h ").map(|rest| format!("put sid {rest}\n")));
+        is_its_own.extend([Some(true), also.as_ref().map(|_| false)].into_iter().flatten());
+        lines += &format!("{line}\n{}", also.unwrap_or_default());
+    }
+    assert!(is_its_own.contains(&false));
+    answers(&lines).into_iter().zip(is_its_own).filter_map(|(answer, its_own)| its_own.then_some(answer)).collect()
+}
+
 #[test]
 fn examples_of_the_landings() {
     let sha2 = include_str!("../../../tests/examples/102.script");
     let keys = include_str!("../../../tests/examples/105.script");
+    let rekeying = include_str!("../../../tests/examples/106.script");
     let lines = |text: &str| text.lines().map(str::to_string).collect::<Vec<_>>();
-    assert_eq!(without(answers(sha2), &["h"]), lines(include_str!("../../../tests/examples/102.answers")));
-    assert_eq!(answers(keys), lines(include_str!("../../../tests/examples/105.answers")));
+    let gained = ["h", "sid", "n"];
+    assert_eq!(without(answers(sha2), &gained), lines(include_str!("../../../tests/examples/102.answers")));
+    let of_keys = without(with_h_for_identifier(keys), &gained[1..]);
+    assert_eq!(of_keys, lines(include_str!("../../../tests/examples/105.answers")));
+    assert_eq!(answers(rekeying), lines(include_str!("../../../tests/examples/106.answers")));
 }
 
 #[test]
 fn records_put_together() {
     let state = |stage: &str, k: &[u8], h: &[u8]| {
         let padded = |bytes: &[u8], len: usize| [bytes, &vec![0; len - bytes.len()]].concat();
-        let (k, h) = (digest(&padded(k, 71)), digest(&padded(h, 64)));
-        format!("| ex 1.1.{stage}.0.1,1,1,1,1,32,32 k={k} h={h} room=0000000000000000")
+        let (k, h, id) = (digest(&padded(k, 71)), digest(&padded(h, 64)), digest(&padded(&[3, 4], 64)));
+        format!("| ex 1.1.{stage}.0.1,1,1,1,1,32,32 k={k} h={h} sid=48:{id} n=7 room=0000000000000000")
     };
     let set = "set role 1\nset method 1\nset stage complete\nset l0 1\nset l1 1\nset l2 1\nset l3 1\nset l4 1\n\
-               set l5 32\nset l6 32\n";
+               set l5 32\nset l6 32\nput sid 0304\nset slen 48\nset count 7\n";
     let script = format!(
         "{set}derive 65 1 ff\nput k 00000001\nput k -\nset h63 255\nput h 0102\nset h63 0\nderive 65 1 eeee\n\
          derive 71 1 eeee\nderive 70 18446744073709551615 eeee\nderive 70 3 eeee\nset stage secret\nderive 70 2 eeee\n"
@@ -174,8 +197,8 @@ fn records_put_together() {
     let last = [&[1, 2][..], &[0; 61], &[255]].concat();
     let (k, h) = (&[0, 0, 0, 1][..], &[1, 2][..]);
     let ee = |len: usize| format!("out={len}:{}", digest(&vec![0xee; len]));
-    // the first byte of SHA-256 of K, H, the letter and H, by Python
-    let key = digest(&[0xe9, 0xee]);
+    // the first byte of SHA-256 of K, H, the letter and the 48 bytes of the identifier, by Python
+    let key = digest(&[0x82, 0xee]);
     let expected = [
         format!("1 out=1:{} {}", digest(&[0xff]), state("complete", &[], &[])),
         format!("0 {}", state("complete", k, &[])),
@@ -190,7 +213,51 @@ fn records_put_together() {
         format!("0 {}", state("secret", k, h)),
         format!("1 {} {}", ee(2), state("secret", k, h)),
     ];
-    assert_eq!(answers(&script)[10..], expected);
+    assert_eq!(answers(&script)[13..], expected);
+}
+
+/// Of the lines from this one on: number, stage, identifier's length and count.
+fn sessions(script: &str, from: usize) -> Vec<String> {
+    let of = |line: &String| {
+        let (answer, state) = line.split_once(" | ex ").unwrap();
+        let word = |name: &str| state.split(' ').find_map(|word| word.strip_prefix(name)).unwrap().to_string();
+        let (number, stage) = (answer.split(' ').next().unwrap(), state.split('.').nth(2).unwrap());
+        format!("{number} {stage} {} {}", word("sid=").split(':').next().unwrap(), word("n="))
+    };
+    answers(script)[from..].iter().map(of).collect()
+}
+
+#[test]
+fn forged_sessions() {
+    let begin = "room 00*14156\nstart 2 1 61 62 14 14\n";
+    let init = "init 1e000000200707070707070707070707070707070707070707070707070707070707070707\n";
+    let last = "secret G32 01*32 a - 6b 09*32\nsign 73 00*5774 00*71\n";
+    let most = 4_294_967_295u64;
+    // a count and a length go together, and not the most of counts while a step is due; what does not fit stays as it is
+    for (id_len, count) in
+        [(0, 1), (32, 0), (31, 1), (33, 1), (65_536 + 32, 1), (u64::MAX, 1), (32, most), (64, most + 1), (64, u64::MAX)]
+    {
+        let lines = sessions(&format!("{begin}set slen {id_len}\nset count {count}\n{init}again 1 14 14\n"), 3);
+        let expected = [0, 1, 1].map(|number| format!("{number} started {id_len} {count}"));
+        assert_eq!(lines, expected);
+    }
+    for id_len in [32, 48, 64] {
+        let full = format!("set slen {id_len}\nset count {}\n", most - 1);
+        let lines = sessions(&format!("{begin}{full}{init}{last}again 1 14 15\nagain 9 14 14\n"), 4);
+        let numbers = [
+            (0, "init", most - 1),
+            (0, "secret", most - 1),
+            (0, "complete", most),
+            (4, "complete", most),
+            (23, "complete", most),
+        ];
+        assert_eq!(lines, numbers.map(|(number, stage, count)| format!("{number} {stage} {id_len} {count}")));
+    }
+    // blank and start forget; a fault does not
+    let lines = sessions(&format!("{begin}{init}{last}again 9 14 14\ninit 1e\nblank\n{begin}"), 4);
+    let expected =
+        ["0 complete 32 1", "0 started 32 1", "12 failed 32 1", "0 failed 0 0", "0 failed 0 0", "0 started 0 0"];
+    assert_eq!(lines, expected);
 }
 
 #[test]
@@ -317,6 +384,19 @@ fn bad_lines() {
         "put room 00",
         "put h0 00",
         "put k 0",
+        "put sid 00*65",
+        "put s0 00",
+        "set s64 0",
+        "set s0 256",
+        "set s 0",
+        "set sid 0",
+        "set slen 18446744073709551616",
+        "set count 18446744073709551616",
+        "set count -",
+        "again",
+        "again 1 14",
+        "again 256 14 14",
+        "again 1 14 14 14",
         "set what 0",
         "set fail 256",
         "blank 1",

@@ -494,7 +494,8 @@ fn client_and_server_agree_in_every_method() {
         assert_eq!(&k_out[..k.len()], &k[..]);
         assert!(k_out[k.len()..71].iter().all(|&byte| byte == 0));
         assert_eq!(k_out[71..], [0xcd; 2]);
-        assert_eq!(answer.exchange, Exchange { stage: Stage::Complete, ..server });
+        let session = Session { id: server.h, id_len: row.digest_len, completed: 1 };
+        assert_eq!(answer.exchange, Exchange { stage: Stage::Complete, session, ..server });
         check(&server_room, &hash, 0x5e);
 
         let at = [5, 5 + k_s.len() + 4, 5 + k_s.len() + 4 + s.len() + 4];
@@ -518,7 +519,7 @@ fn client_and_server_agree_in_every_method() {
         let mut again = [0xcd; 73];
         let answer = verdict(client, &mut client_room, true, true, &mut again);
         assert_eq!((answer.number, answer.count, answer.second), (0, k.len(), 0));
-        assert_eq!(answer.exchange, Exchange { stage: Stage::Complete, ..client });
+        assert_eq!(answer.exchange, Exchange { stage: Stage::Complete, session, ..client });
         assert_eq!(again, k_out);
         check(&client_room, &hash, 0xc1);
     }
@@ -718,6 +719,7 @@ fn no_step_is_due(e: Exchange) {
     assert_eq!(take_secret(e, &mut room, given, &x, kem(number), &k_pq(number), b"key", &s), refused);
     assert_eq!(sign(e, &room, b"signature", &mut out, &mut k_out), refused);
     assert_eq!(verdict(e, &mut room, true, true, &mut k_out), refused);
+    assert_eq!(again(e, number, I_C, I_S, &mut room), refused);
     assert!(room == fresh && out == [2; REPLY_OUT] && k_out == [2; K_RECORD]);
 }
 
@@ -809,6 +811,7 @@ fn no_record_and_no_payload_makes_a_step_panic() {
     let mut any = Shuffle(0x9e37_79b9_7f4a_7c15);
     let stages =
         [Stage::Started, Stage::OwnC, Stage::Init, Stage::Reply, Stage::Secret, Stage::Complete, Stage::Failed(3)];
+    let mut seen = [0; 24];
     for _ in 0..20_000 {
         let number = any.below(11) as u8;
         let row = method(number).copied().unwrap_or_default();
@@ -819,7 +822,7 @@ fn no_record_and_no_payload_makes_a_step_panic() {
             _ => good,
         };
         // Mostly the stage and role at which the step is due.
-        let step = any.below(6);
+        let step = any.below(7);
         let client = any.below(2) == 0;
         let (role, stage) = match step {
             _ if any.below(8) == 0 => (any.below(4) as u8, stages[any.below(7)]),
@@ -829,7 +832,8 @@ fn no_record_and_no_payload_makes_a_step_panic() {
             3 if client => (CLIENT, Stage::Reply),
             3 => (SERVER, Stage::Init),
             4 => (SERVER, Stage::Secret),
-            _ => (CLIENT, Stage::Secret),
+            5 => (CLIENT, Stage::Secret),
+            _ => (1 + u8::from(client), Stage::Complete),
         };
         let has_c = stage != Stage::Started;
         let has_s = has_c && !matches!(stage, Stage::OwnC | Stage::Init);
@@ -846,7 +850,17 @@ fn no_record_and_no_payload_makes_a_step_panic() {
         k[3] = if row.hybrid { odd(&mut any, row.digest_len) } else { any.below(72) } as u8;
         k[any.below(4)] |= (any.below(20) / 19) as u8;
         let h = std::array::from_fn(|_| any.below(256) as u8);
-        let e = Exchange { role, method: number, stage, lens, k, h };
+        let id = std::array::from_fn(|_| any.below(256) as u8);
+        let completed = match any.below(24) {
+            0 => 0,
+            1 => COMPLETED_MOST,
+            2 => COMPLETED_MOST + 1,
+            3 => u64::MAX,
+            _ => 1 + any.below(9) as u64,
+        };
+        let id_len = if completed > 0 { odd(&mut any, [32, 48, 64][number as usize % 3]) } else { any.below(20) / 19 };
+        let session = Session { id, id_len, completed };
+        let e = Exchange { role, method: number, stage, lens, k, h, session };
 
         let mut room = vec![0x42; odd(&mut any, ROOM).min(ROOM + 1).saturating_sub(any.below(9) / 8)];
         let before = room.clone();
@@ -878,8 +892,10 @@ fn no_record_and_no_payload_makes_a_step_panic() {
             }
             3 => take_secret(e, &mut room, outcome, &x, kem, &k_pq, b"key", &s),
             4 => sign(e, &room, b"signature", &mut out, &mut k_out),
-            _ => verdict(e, &mut room, any.below(3) > 0, any.below(3) > 0, &mut k_out),
+            5 => verdict(e, &mut room, any.below(3) > 0, any.below(3) > 0, &mut k_out),
+            _ => again(e, any.below(11) as u8, I_C, &vec![20; odd(&mut any, 4096).min(4097)], &mut room),
         };
+        seen[usize::from(answer.number)] += 1;
         if answer.number != 0 {
             assert_eq!((answer.count, answer.second, answer.h), (0, 0, [0; H]));
             assert!(out.iter().chain(&k_out).all(|&byte| byte == 1));
@@ -887,13 +903,15 @@ fn no_record_and_no_payload_makes_a_step_panic() {
         match answer.number {
             0 => assert_ne!(answer.exchange.stage, e.stage),
             1 | 3 | 4 | 5 => assert!(answer.exchange == e && room == before),
+            2 | 23 => assert!(answer.exchange == e && room == before && step == 6),
             10..=18 => {
                 let stage = Stage::Failed(answer.number);
-                let failed = Exchange { role: e.role, method: number, stage, ..Exchange::default() };
+                let failed = Exchange { role: e.role, method: number, stage, session, ..Exchange::default() };
                 assert_eq!(answer.exchange, failed);
                 assert!(room.iter().all(|&byte| byte == 0));
             }
             other => panic!("a step answered {other}"),
         }
     }
+    assert!([0, 1, 2, 3, 4, 5, 10, 11, 14, 16, 17, 18, 23].iter().all(|&number| seen[number] > 0), "{seen:?}");
 }

@@ -56,18 +56,22 @@ fn k_lens(number: u8) -> (usize, usize) {
     }
 }
 
-/// A complete record that nobody's steps made, with this K, in its form, and this H.
-fn complete(role: u8, number: u8, k: &[u8], h: &[u8]) -> Exchange {
+/// A complete record that nobody's steps made, with this K, in its form, this H and this session identifier.
+fn complete(role: u8, number: u8, k: &[u8], h: &[u8], identifier: &[u8]) -> Exchange {
     let lens = [9, 10, 100, 200, 51, row(number).c_len, row(number).s_len];
-    let mut e = Exchange { role, method: number, stage: Stage::Complete, lens, k: [0xcc; K_RECORD], h: [0xdd; H] };
+    let session = Session { id: [0xbb; H], id_len: identifier.len(), completed: 1 };
+    let (stage, k_record) = (Stage::Complete, [0xcc; K_RECORD]);
+    let mut e = Exchange { role, method: number, stage, lens, k: k_record, h: [0xdd; H], session };
     e.k[..k.len()].copy_from_slice(k);
     e.h[..h.len()].copy_from_slice(h);
+    e.session.id[..identifier.len()].copy_from_slice(identifier);
     e
 }
 
-/// One with a K whose body has this length, also one that no method has.
+/// One with a K whose body has this length, also one that no method has, and an identifier of another hash than its own.
 fn with_k(role: u8, number: u8, len: u32) -> Exchange {
-    complete(role, number, &len.to_be_bytes(), &[0x48; H])
+    let other = if row(number).digest_len == 48 { 64 } else { 48 };
+    complete(role, number, &len.to_be_bytes(), &[0x48; H], &[0x49; H][..other])
 }
 
 /// A key that must be given, in an output that is longer: the bytes behind it stay.
@@ -99,23 +103,26 @@ fn published_keys() {
     }
 }
 
-/// Those whose identifier is H, in every method that has their hash and takes their K.
+/// Each in every method that has its hash and takes its K, with its identifier: the record's H, another of that length,
+/// or one of another hash.
 #[test]
 fn published_keys_of_a_record() {
-    let mut count = 0;
-    for v in vectors(NIST).into_iter().chain(vectors(OPENSSL)).filter(|v| v.identifier == v.h) {
+    let (mut of_h, mut of_length, mut of_another) = (0, 0, 0);
+    for v in vectors(NIST).into_iter().chain(vectors(OPENSSL)) {
         for number in 1..=9 {
             let (least, most) = k_lens(number);
             if row(number).digest_len != usize::from(v.kind) || !(4 + least..=4 + most).contains(&v.k.len()) {
                 continue;
             }
             for role in ROLES {
-                assert_eq!(derived(&complete(role, number, &v.k, &v.h), v.letter, v.key.len()), v.key);
-                count += 1;
+                assert_eq!(derived(&complete(role, number, &v.k, &v.h, &v.identifier), v.letter, v.key.len()), v.key);
+                of_h += u32::from(v.identifier == v.h);
+                of_length += u32::from(v.identifier != v.h && v.identifier.len() == v.h.len());
+                of_another += u32::from(v.identifier.len() != v.h.len());
             }
         }
     }
-    assert_eq!(count, 2 * 56);
+    assert_eq!((of_h, of_length, of_another), (2 * 56, 2 * 30, 2 * 48));
 }
 
 #[test]
@@ -135,7 +142,7 @@ fn by_hand(e: &Exchange, letter: u8, length: usize) -> Vec<u8> {
         hash.finish().1[..kind].to_vec()
     };
     let h = &e.h[..kind];
-    let mut all = hashed([k, h, &[letter], h].concat());
+    let mut all = hashed([k, h, &[letter], &e.session.id[..e.session.id_len]].concat());
     while all.len() < length {
         all = [all.clone(), hashed([k, h, &all].concat())].concat();
     }
@@ -187,8 +194,10 @@ fn what_is_not_judged() {
         let mut other = e;
         other.k[4 + most..].fill(1);
         other.h[kind..].fill(1);
+        other.session.id[e.session.id_len..].fill(1);
+        other.session.completed = COMPLETED_MOST;
         assert_eq!(derived(&other, b'C', 100), derived(&e, b'C', 100));
-        // of K's bytes and of H's each is in the key, whatever it is; the role is not
+        // of K's bytes, of H's and of the identifier's each is in the key, whatever it is; the role is not
         for at in 4..4 + most {
             let mut other = e;
             other.k[at] ^= 1;
@@ -199,11 +208,18 @@ fn what_is_not_judged() {
             other.h[at] ^= 1;
             assert_ne!(derived(&other, b'C', 100), derived(&e, b'C', 100));
         }
+        for at in 0..e.session.id_len {
+            let mut other = e;
+            other.session.id[at] ^= 1;
+            assert_ne!(derived(&other, b'C', 100), derived(&e, b'C', 100));
+        }
         assert_eq!(derived(&Exchange { role: 2, ..e }, b'C', 100), derived(&e, b'C', 100));
         // zeros too, where the length is one that K may have
-        let zeros =
-            Exchange { h: [0; H], ..complete(1, number, &[&[0, 0, 0, most as u8][..], &vec![0; most]].concat(), &[]) };
-        assert_eq!(derived(&zeros, b'F', 128), by_hand(&zeros, b'F', 128));
+        let k = [&[0, 0, 0, most as u8][..], &vec![0; most]].concat();
+        for id_len in [32, 48, 64] {
+            let zeros = complete(1, number, &k, &[0; H], &[0; H][..id_len]);
+            assert_eq!(derived(&zeros, b'F', 128), by_hand(&zeros, b'F', 128));
+        }
     }
 }
 

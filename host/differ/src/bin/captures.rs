@@ -113,6 +113,9 @@ impl Steps {
         room.resize(self.room.len(), LENT);
         e.k[..k.len()].copy_from_slice(k);
         e.h[..h.len()].copy_from_slice(h);
+        if stage == Stage::Complete {
+            e.session = plain::Session { id: e.h, id_len: h.len(), completed: 1 };
+        }
         held(&format!("{}: the room", step), &self.room, &room)?;
         held(&format!("{}: the exchange", step), &self.exchange, &bytes_of(&e))?;
         let mut key = [LENT; 16];

@@ -36,13 +36,17 @@ fn line(call: &Call) -> Option<String> {
         Call::Forge(field, to) => match field {
             Field::Role => format!("set role {}", to),
             Field::Method => format!("set method {}", to),
-            Field::Stage => format!("set stage {}", STAGES.get(usize::from(*to))?),
+            Field::Stage => format!("set stage {}", STAGES.get(usize::try_from(*to).ok()?)?),
             Field::Fail => format!("set fail {}", to),
             Field::Length(i) => format!("set l{} {}", i, to),
             Field::K(i) => format!("set k{} {}", i, to),
             Field::H(i) => format!("set h{} {}", i, to),
+            Field::IdLen => format!("set slen {}", to),
+            Field::Completed => format!("set count {}", to),
+            Field::Id(i) => format!("set s{} {}", i, to),
             Field::Mark => return None,
         },
+        Call::Session(s) => session(s),
         Call::Record(e) => record(e),
         Call::Lend(_) | Call::Old { .. } => return None,
         Call::Start { role, method, vc, vs, ic, is } => {
@@ -60,8 +64,13 @@ fn line(call: &Call) -> Option<String> {
         Call::Verdict { signature, host_key, k_out } => {
             format!("verdict {} {} {}", small(*signature, 1)?, small(*host_key, 1)?, o(k_out))
         }
+        Call::Again { method, ic, is } => format!("again {} {} {}", small(*method, 255)?, h(ic), h(is)),
         Call::Derive { letter, length, key } => format!("derive {} {} {}", small(*letter, 255)?, length, o(key)),
     })
+}
+
+fn session(s: &plain::Session) -> String {
+    format!("put sid {}\nset slen {}\nset count {}", h(&s.id), s.id_len, s.completed)
 }
 
 /// An exchange made up as a whole, as lines.
@@ -69,21 +78,22 @@ fn record(e: &plain::Exchange) -> String {
     let (stage, fail) = numbers_of(e.stage);
     let lengths = e.lens.iter().enumerate().map(|(i, len)| format!("set l{} {}\n", i, len)).collect::<String>();
     format!(
-        "set role {}\nset method {}\nset fail {}\nset stage {}\n{}put k {}\nput h {}",
-        e.role, e.method, fail, STAGES[usize::from(stage)], lengths, h(&e.k), h(&e.h)
+        "set role {}\nset method {}\nset fail {}\nset stage {}\n{}put k {}\nput h {}\n{}",
+        e.role, e.method, fail, STAGES[usize::from(stage)], lengths, h(&e.k), h(&e.h), session(&e.session)
     )
 }
 
 fn list(r: &mut Random, out: &mut impl Write) -> io::Result<()> {
-    let mut side = Side::new();
+    let (mut side, mut other) = (Side::new(), Side::new());
     if r.once_in(8) {
         writeln!(out, "blank")?;
     }
-    for i in 0..r.range(2, 12) {
+    let (length, careful) = calls::length(r);
+    for i in 0..length {
         let call = match i {
             0 => Call::Room(calls::room(r)),
             1 => calls::start(r),
-            _ => calls::next(r, &side.exchange, side.room.len(), 0),
+            _ => side.next(r, 0, careful, &mut other),
         };
         if let Some(text) = line(&call) {
             side.call(&call);

@@ -154,7 +154,7 @@ fn hashes() {
     }
 }
 
-/// A complete exchange of method 1 with the longest K, on either side.
+/// A complete exchange of method 1 with the longest K, the session's first, on either side.
 struct Keyed {
     record: plain::Exchange,
     bytes: [u8; EXCHANGE],
@@ -163,6 +163,7 @@ struct Keyed {
 fn keyed() -> Keyed {
     let mut record = complete(&mut Random::new(1, 1), 1, 1);
     record.k[..4].copy_from_slice(&[0, 0, 0, 33]);
+    record.session = plain::Session { id: record.h, id_len: 32, completed: 1 };
     Keyed { bytes: bytes_of(&record), record }
 }
 

@@ -8,17 +8,18 @@ use std::io::{self, BufRead, BufWriter, Write};
 use std::process::ExitCode;
 
 use plain::{
-    choose, derive, hash_start, init_c, next_name, open_list, own_c, read_init, read_mpint, read_reply, read_string,
-    reply_parts, sign, start, take_secret, verdict, write_kexinit, write_mpint, write_string, Answer, Classical,
-    Cursor, Exchange, Hash, Kem, Part, Stage, Written,
+    again, choose, derive, hash_start, init_c, next_name, open_list, own_c, read_init, read_mpint, read_reply,
+    read_string, reply_parts, sign, start, take_secret, verdict, write_kexinit, write_mpint, write_string, Answer,
+    Classical, Cursor, Exchange, Hash, Kem, Part, Session, Stage, Written,
 };
 
 /// Why a line is bad.
 type Bad = &'static str;
 
-const CALLS: [&str; 26] = [
+const CALLS: [&str; 27] = [
     "rstr", "wstr", "rmpint", "wmpint", "open", "next", "names", "wkex", "choose", "sha", "feed", "finish", "shaset",
     "room", "poke", "set", "put", "blank", "start", "ownc", "init", "reply", "secret", "sign", "verdict", "derive",
+    "again",
 ];
 
 /// What is kept between lines: one exchange, one room, one view and one hash.
@@ -191,6 +192,7 @@ impl Bench {
                 let record = match field {
                     "k" => &mut self.exchange.k[..],
                     "h" => &mut self.exchange.h[..],
+                    "sid" => &mut self.exchange.session.id[..],
                     _ => return Err("unknown field"),
                 };
                 record.get_mut(..new.len()).ok_or("put past the field's end")?.copy_from_slice(&new);
@@ -255,6 +257,12 @@ impl Bench {
                 let answer = derive(&self.exchange, letter, length, &mut out);
                 Ok(format!("{answer} {}", after(&out)))
             }
+            ["again", method, ic, is] => {
+                let (method, ic, is) = (number(method)?, bytes(ic)?, bytes(is)?);
+                let answer = again(self.exchange, method, &ic, &is, &mut self.room);
+                self.keep(&answer);
+                Ok(answer.number.to_string())
+            }
             [call, ..] if CALLS.contains(&call) => Err("wrong number of tokens"),
             _ => Err("unknown call"),
         }
@@ -274,6 +282,8 @@ impl Bench {
             "method" => self.exchange.method = number(value)?,
             "stage" => self.exchange.stage = stage(value)?,
             "fail" => self.fail = number(value)?,
+            "slen" => self.exchange.session.id_len = number(value)?,
+            "count" => self.exchange.session.completed = number(value)?,
             _ if field.starts_with('l') => {
                 let at: usize = number(&field[1..])?;
                 *self.exchange.lens.get_mut(at).ok_or("unknown field")? = number(value)?;
@@ -286,6 +296,10 @@ impl Bench {
                 let at: usize = number(&field[1..])?;
                 *self.exchange.h.get_mut(at).ok_or("unknown field")? = number(value)?;
             }
+            _ if field.starts_with('s') => {
+                let at: usize = number(&field[1..])?;
+                *self.exchange.session.id.get_mut(at).ok_or("unknown field")? = number(value)?;
+            }
             _ => return Err("unknown field"),
         }
         // the fail number is 0 unless failed, as in every answer line
@@ -296,7 +310,7 @@ impl Bench {
     }
 
     fn push_record(&self, line: &mut String) {
-        let Exchange { role, method, stage, lens, k, h } = &self.exchange;
+        let Exchange { role, method, stage, lens, k, h, session: Session { id, id_len, completed } } = &self.exchange;
         let (stage, fail) = match stage {
             Stage::Started => ("started", 0),
             Stage::OwnC => ("own_c", 0),
@@ -307,8 +321,9 @@ impl Bench {
             Stage::Failed(number) => ("failed", *number),
         };
         let lens = lens.map(|len| len.to_string()).join(",");
-        let (k, h, room) = (digest(k), digest(h), digest(&self.room));
-        let _ = write!(line, " | ex {role}.{method}.{stage}.{fail}.{lens} k={k} h={h} room={room}");
+        let (k, h, id, room) = (digest(k), digest(h), digest(id), digest(&self.room));
+        let _ = write!(line, " | ex {role}.{method}.{stage}.{fail}.{lens} k={k} h={h}");
+        let _ = write!(line, " sid={id_len}:{id} n={completed} room={room}");
     }
 }
 
