@@ -21,7 +21,7 @@ sys.dont_write_bytecode = True
 from forms import all_forms
 from hostile import FAULT, OWN, PUBLIC, SIGNER, STRICT, Turn, against_client, against_server, all_sessions, changed_replies, judge, slow_peers
 from peer import DEBUG, IGNORE, INIT, NEWKEYS, REPLY, SEALS, UNIMPLEMENTED, kexinit, packet, string
-from programs import METHODS, Dock, Failure, Programs, end_on_signals, need, results
+from programs import DIGESTS, METHODS, Dock, Failure, Programs, end_on_signals, need, results
 from sealed import CIPHERS, MACS, SEALED, longest_word, served
 
 EXTRAS_C, STRICT_C = b",ext-info-c", b",ext-info-c" + STRICT % b"c"
@@ -44,7 +44,7 @@ def completed(answer, method, host_key):
     found = results(out)
     need(found["method"] == f"{method} {METHODS[method]}", "method", found["method"])
     need(found["host key"].split()[0] == host_key, "host key", found["host key"])
-    need(len(found["H"]) == {1: 64, 2: 64, 3: 128, 4: 64, 5: 96, 6: 128, 7: 64, 8: 96, 9: 64}[method], "H", found["H"])
+    need(len(found["H"]) == 2 * DIGESTS[method], "H", found["H"])
     return found
 
 

@@ -248,9 +248,35 @@ class Dock:
         return process.returncode, out.decode("ascii", "replace"), err.decode("ascii", "replace")
 
 
+DIGESTS = {1: 32, 2: 32, 3: 64, 4: 32, 5: 48, 6: 64, 7: 32, 8: 48, 9: 32}
+
+
+class Later:
+    """An exchange behind the first: who asked for it, method and H."""
+    def __init__(self, by, method, h):
+        self.by, self.method, self.h = by, int(method), h
+
+
+def later_exchanges(out):
+    """The output without the lines of later exchanges, and these exchanges. Each has another H, of its method's length; the identifier is the first
+    H in all of them, and they are counted one by one."""
+    form = r"again by (us|the peer) method (\d) (\S+)\nH ([0-9a-f]+)\nexchange (\d+) identifier ([0-9a-f]+)\n"
+    first = re.search(r"^H ([0-9a-f]+)$", out, re.M)
+    need(first, "no H in the output")
+    found, seen = [], {first[1]}
+    for by, method, name, h, count, identifier in re.findall(form, out):
+        need(int(count) == len(found) + 2, f"exchange {count} follows {len(found) + 1}")
+        need(identifier == first[1], f"the identifier of exchange {count} is {identifier} and not {first[1]}")
+        need(METHODS[int(method)] == name and len(h) == 2 * DIGESTS[int(method)] and h not in seen, f"exchange {count}: method {method} {name}, H {h}")
+        seen.add(h)
+        found.append(Later(by, method, h))
+    return re.sub(form, "", out), found
+
+
 def results(out, service=True):
     """The lines of a completed exchange, and of the service behind it, by name; fails on any line more or less. Lines of --show are left out."""
-    found, names = {}, ["method", "host key", "known", "H", "X begins", "to server", "to client", "strict", "NEWKEYS"] + ["service"] * service
+    names = ["method", "H", "exchange", "host key", "known", "X begins", "to server", "to client", "strict", "NEWKEYS"] + ["service"] * service
+    found = {}
     for line in out.splitlines():
         if line[:2] in ("->", "<-", "  "):
             continue
@@ -258,6 +284,7 @@ def results(out, service=True):
         need(name is not None and name not in found, "unexpected line of output:", line)
         found[name] = line[len(name) + 1:]
     need(found.get("NEWKEYS") == "sent and received", "no NEWKEYS in the output")
+    need(found.get("exchange") == f"1 identifier {found.get('H')}", "the identifier is not H:", out)
     need(not service or found.get("service") == "ssh-userauth", "no service in the output")
     need(set(found) | {"known"} == set(names), "lines missing in the output")
     return found
