@@ -69,6 +69,7 @@ class Peer:
         self.sent, self.got = 0, 0  # packets
         self.opens, self.closes = None, None  # a Seal for each direction
         self.past, self.done = False, False  # both NEWKEYS have gone by; and all behind them
+        self.granted = False  # the service, too
         sock.settimeout(timeout)
         sock.setsockopt(socket.IPPROTO_TCP, socket.TCP_NODELAY, 1)
 

@@ -2,6 +2,7 @@
 import base64
 import copy
 import os
+import pwd
 import re
 import shlex
 import shutil
@@ -88,7 +89,7 @@ class Programs:
         """A process of its own group, so that stopping it stops its children too."""
         with self.lock:
             need(not self.stopped, "stopped")
-            process = subprocess.Popen(arguments, stdin=subprocess.DEVNULL, start_new_session=True, **more)
+            process = subprocess.Popen(arguments, start_new_session=True, **{"stdin": subprocess.DEVNULL, **more})
             self.started.append(process)
         return process
 
@@ -160,8 +161,8 @@ class Programs:
 
     # ---- OpenSSH
 
-    def sshd(self, lines=()):
-        """An sshd of this user on the loopback; its port. It writes to sshd.log. lines: of its configuration, ahead of those here."""
+    def sshd(self, lines=(), name="sshd"):
+        """An sshd of this user on the loopback; its port. It writes to NAME.log. lines: of its configuration, ahead of those here."""
         if self.suite:
             command = self.suite.command("usr/sbin/sshd")
             lines = [*lines, f"SshdSessionPath {self.suite.script(self, 'usr/lib/openssh/sshd-session')}",
@@ -179,8 +180,8 @@ class Programs:
         text += ["MaxStartups 1000:100:2000"] + (["PerSourcePenalties no"] if (major, minor) >= (9, 8) else [])
         for _ in range(5):  # another program may take the port first
             port = free_port()
-            config = self.write("sshd.conf", "\n".join(text + [f"Port {port}"]) + "\n")
-            with open(self.path("sshd.log"), "wb") as log:
+            config = self.write(f"{name}.conf", "\n".join(text + [f"Port {port}"]) + "\n")
+            with open(self.path(f"{name}.log"), "wb") as log:
                 process = self.start([*command, "-D", "-e", "-f", config], stdout=log, stderr=log)
             for _ in range(100):
                 if process.poll() is not None:
@@ -190,24 +191,39 @@ class Programs:
                     return port
                 except OSError:
                     time.sleep(0.05)
-        raise Failure("sshd does not start: " + (self.log().strip().split("\n") or [""])[-1])
+        raise Failure("sshd does not start: " + (self.log(name).strip().split("\n") or [""])[-1])
 
-    def log(self):
-        with open(self.path("sshd.log"), errors="replace") as f:
+    def login(self, host_key):
+        """Who this user's sshd lets in by that key, for its configuration; and dock's options for it."""
+        allowed = self.write(f"allowed_{host_key}", self.public(host_key) + "\n")
+        return [f"AuthorizedKeysFile {allowed}"], ["--login", pwd.getpwuid(os.geteuid()).pw_name, "--key", self.key(host_key)]
+
+    def log(self, name="sshd"):
+        with open(self.path(f"{name}.log"), errors="replace") as f:
             return f.read()
 
     def ssh_version(self):
         return subprocess.run([*self.ssh_command, "-V"], capture_output=True, text=True).stderr
 
-    def ssh(self, port, method, host_key, known_hosts, **more):
-        """ssh against a server on the loopback; it ends with an error, because the first service is all there is. more: its options."""
+    def ssh(self, port, method, host_key, known_hosts, data=None, **more):
+        """ssh against a server on the loopback; it ends with an error where the first service is all there is. data: a file for its standard input;
+        more: its options."""
         options = {
             "KexAlgorithms": METHODS[method], "HostKeyAlgorithms": host_key, "UserKnownHostsFile": known_hosts,
             "GlobalKnownHostsFile": "/dev/null", "StrictHostKeyChecking": "yes", "BatchMode": "yes", "IdentityAgent": "none",
             "IdentityFile": "/dev/null", "UpdateHostKeys": "no", **more,
         }
         flags = [word for name, value in options.items() for word in ("-o", f"{name}={value}")]
-        return self.run([*self.ssh_command, "-F", "/dev/null", "-p", str(port), *flags, "127.0.0.1", "true"], seconds=150)
+        with open(data or os.devnull, "rb") as coming:
+            return self.run([*self.ssh_command, "-F", "/dev/null", "-p", str(port), *flags, "127.0.0.1", "true"], seconds=150, stdin=coming)
+
+
+def logged(programs, words, since=0, count=1, name="sshd"):
+    """sshd may write a line after it has closed."""
+    until = time.monotonic() + 5
+    while (found := programs.log(name)[since:].count(words)) < count and time.monotonic() < until:
+        time.sleep(0.02)
+    need(found == count, f"sshd has '{words}' {found} times in its log, and not {count}")
 
 
 class Dock:
@@ -239,9 +255,15 @@ class Dock:
             raise Failure("dock server: " + process.communicate()[1].decode("ascii", "replace").strip())
         return process, int(line.split()[2])
 
-    def end(self, process, seconds=60):
+    def end(self, process, seconds=60, each=None):
+        """each: is given each line of standard output as it comes, however long that takes."""
+        came = b""
+        for line in process.stdout if each else ():
+            came += line
+            each(line.decode("ascii", "replace"))
         try:
             out, err = process.communicate(timeout=seconds)
+            out = came + out
         except subprocess.TimeoutExpired:
             raise Failure(f"dock: no end after {seconds} s") from None
         self.programs.finished(process)
