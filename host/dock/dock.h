@@ -271,8 +271,11 @@ span kex_identifier(const struct kex *k);
 
 /* ---- service.c: the first service behind NEWKEYS */
 
-bool ask_service(struct kex *k, long rekeyings);
-bool grant_service(struct kex *k, long rekeyings);
+bool ask_service(struct kex *k);
+bool grant_service(struct kex *k);
+
+/* So many exchanges, where nothing else is to follow. */
+bool rekey_behind_service(struct kex *k, long rekeyings);
 
 /* ---- session.c: behind the service a login and one channel, on which data go there and back */
 

@@ -557,13 +557,14 @@ static void kex_end(struct kex *k)
     castulfrisa_wipe((uint8_t *)k, sizeof *k);
 }
 
-/* Where data are to flow, the exchanges asked for come between them. OpenSSH makes none between the first and the login. */
+/* Where data are to flow, the exchanges asked for come between them: OpenSSH makes none between the first and the login. */
 static bool talk_as_client(struct kex *k)
 {
     const struct settings *set = k->set;
     if (set->no_service) return true;
-    if (set->user != NULL) return ask_service(k, 0) && session_as_client(k, set);
-    if (!ask_service(k, set->rekeyings)) return false;
+    if (!ask_service(k)) return false;
+    if (set->user != NULL) return session_as_client(k, set);
+    if (!rekey_behind_service(k, set->rekeyings)) return false;
     link_disconnect(&k->link, REASON_BY_APPLICATION, "the service was accepted, and that was all");
     return true;
 }
@@ -572,8 +573,9 @@ static bool talk_as_server(struct kex *k)
 {
     const struct settings *set = k->set;
     if (set->no_service) return true;
-    if (set->echo) return grant_service(k, 0) && session_as_server(k, set);
-    if (!grant_service(k, set->rekeyings)) return false;
+    if (!grant_service(k)) return false;
+    if (set->echo) return session_as_server(k, set);
+    if (!rekey_behind_service(k, set->rekeyings)) return false;
     link_disconnect(&k->link, REASON_BY_APPLICATION, "the service is accepted, and that is all");
     return true;
 }

@@ -17,7 +17,7 @@
 enum { DONE = 0, FAILED = 1, USAGE = 2 };
 
 static const char help[] =
-    "usage: dock client HOST PORT [--known-hosts FILE] [--host-keys NAME,..] [--login USER --key FILE [--rekeyed N]] [options]\n"
+    "usage: dock client HOST PORT [--known-hosts FILE] [--host-keys NAME,..] [--login USER [--key FILE] [--rekeyed N]] [options]\n"
     "       dock server PORT --host-key FILE [--host-key FILE ..] [--echo] [--x-begins HEX] [--count N] [options]\n"
     "\n"
     "Makes an SSH key exchange, and behind NEWKEYS, encrypted, asks for the service ssh-userauth or accepts it, which is the end. Prints\n"
@@ -29,19 +29,19 @@ static const char help[] =
     "  --known-hosts FILE  refuse a host key that FILE does not have for HOST ('host type base64' or '[host]:port type base64')\n"
     "  --host-keys NAME,.. host key names in order of preference: ssh-ed25519, ecdsa-sha2-nistp256, ecdsa-sha2-nistp384,\n"
     "                      ecdsa-sha2-nistp521, rsa-sha2-512, rsa-sha2-256\n"
-    "  --login USER        go on behind the service: log in with the key of --key, run cat, and send data until the exchanges that are asked\n"
-    "                      for are complete; what comes back must be the same\n"
-    "  --key FILE          a private key, as --host-key\n"
+    "  --login USER        go on behind the service: log in, run cat, and send data until the exchanges that are asked for are complete; what\n"
+    "                      comes back must be the same\n"
+    "  --key FILE          log in with this private key, in a form of --host-key's; else by the method none\n"
     "  --rekeyed N         with --login: send data until the peer has asked for N exchanges\n"
     "  --host-key FILE     a private key, in PEM or OpenSSH form, without a passphrase\n"
     "  --x-begins HEX      for tests: draw the ephemeral key until X begins with these 1 or 2 bytes\n"
-    "  --echo              go on behind the service: let anybody in, and send back what comes for the first command\n"
+    "  --echo              go on behind the service: let anybody in by the method none, and send back what comes for the first command\n"
     "  --count N           connections to serve, one after the other (1); exit 0 if every exchange was completed\n"
     "options:\n"
     "  --methods NAME,..   key exchange methods in order of preference: curve25519-sha256, curve25519-sha256@libssh.org,\n"
     "                      curve448-sha512, ecdh-sha2-nistp256, ecdh-sha2-nistp384, ecdh-sha2-nistp521\n"
     "%s"
-    "  --rekey N           ask for N exchanges behind the first (0): ahead of the service, with --login and --echo between data\n"
+    "  --rekey N           ask for N exchanges behind the first (0): behind the service, with --login and --echo between data\n"
     "  --turns NAME,..     methods of the later exchanges, each of which offers one alone, in turn\n"
     "  --ciphers NAME,..   of aes256-ctr and aes128-ctr, in order of preference; NAME,../NAME,.. is to the server and to the client\n"
     "  --macs NAME,..      of hmac-sha2-256, hmac-sha2-512 and these with -etm@openssh.com behind them, likewise\n"
@@ -241,8 +241,7 @@ static int run_client(struct command *c, char **arguments)
     c->set.host_keys = "ssh-ed25519,ecdsa-sha2-nistp256,ecdsa-sha2-nistp384,ecdsa-sha2-nistp521,rsa-sha2-512,rsa-sha2-256";
     int result = take_options(c, true, arguments + 2);
     if (result != DONE) return result;
-    if ((c->set.user == NULL) != (c->set.login_key == NULL)) return misused("--login and --key go together", NULL);
-    if (c->set.user == NULL && c->set.peer_rekeyings > 0) return misused("--rekeyed needs --login", NULL);
+    if (c->set.user == NULL && (c->set.login_key != NULL || c->set.peer_rekeyings > 0)) return misused("--key and --rekeyed need --login", NULL);
     bool done = connect_as_client(&c->set);
     wipe_stack();
     return done ? DONE : FAILED;

@@ -1,5 +1,4 @@
-/* The first service behind NEWKEYS (RFC 4253, 10): the first packets that only the two sides of the exchange can read. Exchanges may come ahead of
-   it: of those that are asked for here all come ahead of what goes out. */
+/* The first service behind NEWKEYS (RFC 4253, 10): the first packets that only the two sides of the exchange can read; and exchanges behind it. */
 #include "dock.h"
 
 #define SERVICE "ssh-userauth"
@@ -38,25 +37,26 @@ static bool receive_service(struct kex *k, enum message message)
     return fflush(stdout) == 0 || trouble("standard output cannot be written");
 }
 
-/* A client sends nothing ahead of SERVICE_REQUEST and waits behind it, and a server the same. */
-static bool take_nothing(void *of, span payload)
+bool ask_service(struct kex *k)
 {
-    return peer_fault(of, "message %u of %lu bytes where KEXINIT is due", payload.len > 0 ? (unsigned)payload.at[0] : 0, (unsigned long)payload.len);
+    return send_service(kex_link(k), MESSAGE_SERVICE_REQUEST) && receive_service(k, MESSAGE_SERVICE_ACCEPT);
 }
 
-static bool rekey(struct kex *k, long rekeyings)
+bool grant_service(struct kex *k)
+{
+    return receive_service(k, MESSAGE_SERVICE_REQUEST) && send_service(kex_link(k), MESSAGE_SERVICE_ACCEPT);
+}
+
+/* The service's own messages may be under way. None is answered: the exchanges are the last that is made of the connection. */
+static bool pass_over(void *of, span payload)
+{
+    unsigned found = payload.len > 0 ? payload.at[0] : 0;
+    return found >= MESSAGES_OF_TRANSPORT || peer_fault(of, "message %u of %lu bytes where KEXINIT is due", found, (unsigned long)payload.len);
+}
+
+bool rekey_behind_service(struct kex *k, long rekeyings)
 {
     for (; rekeyings > 0; rekeyings--)
-        if (!kex_ask(k, take_nothing, kex_link(k))) return false;
+        if (!kex_ask(k, pass_over, kex_link(k))) return false;
     return true;
-}
-
-bool ask_service(struct kex *k, long rekeyings)
-{
-    return rekey(k, rekeyings) && send_service(kex_link(k), MESSAGE_SERVICE_REQUEST) && receive_service(k, MESSAGE_SERVICE_ACCEPT);
-}
-
-bool grant_service(struct kex *k, long rekeyings)
-{
-    return receive_service(k, MESSAGE_SERVICE_REQUEST) && rekey(k, rekeyings) && send_service(kex_link(k), MESSAGE_SERVICE_ACCEPT);
 }

@@ -1,5 +1,5 @@
-/* Behind the first service, no more than it takes for data to go both ways while keys change: a login (RFC 4252) with a key as client and without
-   any as server, and one session channel (RFC 4254). A client asks for `cat` and judges what comes back, a server sends everything back.
+/* Behind the first service, no more than it takes for data to go both ways while keys change: a login (RFC 4252) with a key or without
+   any, and one session channel (RFC 4254). A client asks for `cat` and judges what comes back, a server sends everything back.
 
    A message that comes in is taken without anything going out, for it may have been under way when we asked for an exchange (RFC 4253, 7.1). What it
    asks for is owed, and goes out when no exchange runs. */
@@ -222,11 +222,12 @@ static bool put_login(struct session *s, struct blob *b)
 {
     const struct host_key *key = s->set->login_key;
     const struct scheme *scheme = NULL;
-    for (size_t i = 0; scheme == NULL && i < scheme_count; i++)
-        if (strcmp(schemes[i].key_type, key->type) == 0) scheme = &schemes[i];
     put_text(b, s->set->user);
     put_text(b, CONNECTION);
-    put_text(b, "publickey");
+    put_text(b, key == NULL ? "none" : "publickey");
+    if (key == NULL) return true;
+    for (size_t i = 0; scheme == NULL && i < scheme_count; i++)
+        if (strcmp(schemes[i].key_type, key->type) == 0) scheme = &schemes[i];
     put_byte(b, 1);
     put_text(b, scheme->name);
     put_string(b, key->blob, key->blob_len);

@@ -63,7 +63,7 @@ def command_line(programs, dock):
              ("server", "0", "--x-begins", "0"), ("server", "0", "--x-begins", "00zz"), ("server", "0", "--known-hosts", "f"),
              ("client", "h", "1", "--ciphers", "aes192-ctr"), ("client", "h", "1", "--ciphers", ""), ("server", "0", "--ciphers", "aes128-ctr/"),
              ("client", "h", "1", "--rekey", "x"), ("client", "h", "1", "--turns", "curve25519-sha256,,"), ("client", "h", "1", "--echo"),
-             ("client", "h", "1", "--login", "user"), ("client", "h", "1", "--rekeyed", "1"), ("server", "0", "--login", "user"),
+             ("client", "h", "1", "--key", programs.key("ssh-ed25519")), ("client", "h", "1", "--rekeyed", "1"), ("server", "0", "--login", "user"),
              ("client", "h", "1", "--macs", "hmac-sha1"), ("client", "h", "1", "--macs", "hmac-sha2-256/hmac-sha2-512/hmac-sha2-512")]
     if not hybrids:
         wrong += [("client", "h", "1", "--methods", METHODS[method]) for method in (7, 8, 9)]

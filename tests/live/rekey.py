@@ -144,12 +144,13 @@ def say(p, *payloads):
 
 
 def begun(p, strict=True, seals=SEALS):
-    """The first exchange, up to NEWKEYS of both sides."""
+    """The first exchange, up to NEWKEYS of both sides and what dock's client asks for behind it."""
     p.greet(kexinit(KEX + p.strict_name * strict, b"ssh-ed25519", seals=seals))
     p.answer()
     p.send_packets(packet(bytes([NEWKEYS])))
     p.seal(True, strict, seals)
     p.strict, p.seals, p.exchanges = strict, seals, 1
+    p.asked()
 
 
 def their_kexinit(p):
@@ -197,9 +198,14 @@ def turned(p, ahead=()):
     p.exchanges += 1
 
 
-def good_bye(p):
+def granted(p):
     say(p, p.due)
     need(p.serves or p.read() == service(ACCEPT), "no SERVICE_ACCEPT")
+    p.granted = True
+
+
+def good_bye(p):
+    granted(p)
     need(p.read()[:5] == disconnect(11)[:5], "no DISCONNECT at the end")
     p.done = True
 
@@ -208,7 +214,6 @@ def they_ask(strict, ahead=(), times=3, seals=SEALS):
     """This side asks: with words in between, which a strict exchange takes too, once it is not the first."""
     def play(p, rng):
         begun(p, strict, seals)
-        p.asked()
         for _ in range(times):
             say(p, *ahead)
             kexinits(p, behind=ahead)
@@ -220,7 +225,6 @@ def they_ask(strict, ahead=(), times=3, seals=SEALS):
 def strict_too_late(p, rng):
     """Named in the second KEXINIT alone, it is nothing: packets are counted on."""
     begun(p, False)
-    p.asked()
     kexinits(p, kexinit(KEX + p.strict_name, b"ssh-ed25519"))
     turned(p)
     good_bye(p)
@@ -230,7 +234,6 @@ def guessed(kex, guess):
     """first_kex_packet_follows in a later KEXINIT; the guess is another message than is due, and is dropped."""
     def play(p, rng):
         begun(p)
-        p.asked()
         kexinits(p, kexinit(kex, b"ssh-ed25519", True), [guess])
         turned(p)
         good_bye(p)
@@ -239,7 +242,6 @@ def guessed(kex, guess):
 
 def guessed_right(p, rng):
     begun(p)
-    p.asked()
     own = kexinit(b"curve25519-sha256", b"ssh-ed25519", True)
     if p.serves:  # a server has nothing to say ahead of INIT: its guess is its REPLY
         kexinits(p, own)
@@ -256,37 +258,26 @@ def guessed_right(p, rng):
 
 
 def dock_asks(p, rng):
-    """Ahead of the service, twice, and this side has words in between."""
+    """Behind the service, twice; this side has words in between, and a login of its own is under way, which is passed over."""
     begun(p)
-    if not p.serves:
-        say(p, p.due)
+    granted(p)
     for _ in range(2):
         theirs = their_kexinit(p)
-        say(p, *WORDS)
+        say(p, *WORDS, bytes([SUCCESS if p.serves else LOGIN]))
         kexinits(p, theirs=theirs)
         turned(p, WORDS)
-    if p.serves:
-        p.asked()
-        good_bye(p)
-    else:
-        need(p.read() == service(ACCEPT) and p.read()[:5] == disconnect(11)[:5], "no SERVICE_ACCEPT")
-        p.done = True
+    need(p.read()[:5] == disconnect(11)[:5], "no DISCONNECT at the end")
+    p.done = True
 
 
 def both_ask(p, rng):
     """Each sends KEXINIT before it has seen the other's: that is one exchange."""
     begun(p)
-    if p.serves:
-        kexinits(p)
-        turned(p)
-        p.asked()
-        good_bye(p)
-    else:
-        say(p, p.due)
-        kexinits(p)
-        turned(p)
-        need(p.read() == service(ACCEPT) and p.read()[:5] == disconnect(11)[:5], "no SERVICE_ACCEPT")
-        p.done = True
+    granted(p)
+    kexinits(p)
+    turned(p)
+    need(p.read()[:5] == disconnect(11)[:5], "no DISCONNECT at the end")
+    p.done = True
 
 
 def data(channel, text):
@@ -296,7 +287,6 @@ def data(channel, text):
 def logged_in(p):
     """Up to the first data and dock's KEXINIT behind it; the data that are on their way to this side."""
     if p.serves:
-        p.asked()
         say(p, p.due)
         p.granted = True
         request = p.read()
@@ -404,7 +394,6 @@ def exact_peers(programs, dock):
 def in_exchange(p, rng, seals=None):
     """A second exchange that this side asked for, up to KEXINIT both ways."""
     begun(p, rng.random() < 0.5, seals or SEALS)
-    p.asked()
     kexinits(p)
 
 
@@ -422,7 +411,6 @@ def not_due(p, rng):
 
 def rubbish_kexinit(p, rng):
     begun(p, rng.random() < 0.5)
-    p.asked()
     ed25519 = b"ssh-ed25519"
     payload, said = rng.case([
         (bytes([KEXINIT]), 12), (kexinit(KEX, ed25519)[:-1], 12), (kexinit(KEX, ed25519) + b"\0", 13), (kexinit(KEX + b",", ed25519), 19),
@@ -492,16 +480,14 @@ def goes_away(p, rng):
 
 
 def no_kexinit(p, rng):
-    """dock asks, ahead of the service: this side does not know KEXINIT, or says something else."""
+    """dock asks, behind the service: this side does not know KEXINIT, or says something else of the transport."""
     begun(p, rng.random() < 0.5)
+    granted(p)
     at = p.opens.sequence
-    if not p.serves:
-        say(p, p.due)
-        p.granted = True
     their_kexinit(p)
     payload, p.must = rng.case([
         (bytes([UNIMPLEMENTED]) + u32(at), (QUIET, "no key exchange at this time")), (bytes([NEWKEYS]), (PROTOCOL_ERROR, "where KEXINIT is due")),
-        (p.due, (PROTOCOL_ERROR, "where KEXINIT is due")), (data(0, b"data"), (PROTOCOL_ERROR, "where KEXINIT is due")),
+        (p.due, (PROTOCOL_ERROR, "where KEXINIT is due")), (init(), (PROTOCOL_ERROR, "where KEXINIT is due")),
         (b"", (PROTOCOL_ERROR, "where KEXINIT is due"))])
     say(p, payload)
 
