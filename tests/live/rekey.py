@@ -149,7 +149,7 @@ def begun(p, strict=True, seals=SEALS):
     p.answer()
     p.send_packets(packet(bytes([NEWKEYS])))
     p.seal(True, strict, seals)
-    p.strict, p.seals, p.exchanges = strict, seals, 1
+    p.strict, p.seals, p.by = strict, seals, []  # by: who asked for the later exchanges
     p.asked()
 
 
@@ -160,8 +160,10 @@ def their_kexinit(p):
     return theirs
 
 
-def kexinits(p, own=None, behind=(), theirs=None):
-    """KEXINIT both ways; behind: what goes out at once behind this side's; theirs: dock's, where it was read before."""
+def kexinits(p, own=None, behind=(), theirs=None, by=None):
+    """KEXINIT both ways; behind: what goes out at once behind this side's; theirs: dock's, where it was read before. By: who asked, if it is not the one
+    whose KEXINIT was read, or sent, first."""
+    p.by.append(by or ("us" if theirs else "the peer"))
     own = own or kexinit(KEX, b"ssh-ed25519", seals=p.seals)
     say(p, own, *behind)
     theirs = theirs or their_kexinit(p)
@@ -195,7 +197,6 @@ def turned(p, ahead=()):
     message(p, ahead)
     say(p, *ahead, bytes([NEWKEYS]))
     p.closes = new_keys(p)[1]
-    p.exchanges += 1
 
 
 def granted(p):
@@ -250,10 +251,9 @@ def guessed_right(p, rng):
         kexinits(p, own, [init()])
         p.take(p.read())
         need(p.holds and p.read() == bytes([NEWKEYS]), "no NEWKEYS")
-        opens, closes = new_keys(p)
-        p.opens = opens
+        p.opens = new_keys(p)[0]
         say(p, bytes([NEWKEYS]))
-        p.closes, p.exchanges = closes, 2
+        p.closes = new_keys(p)[1]
     good_bye(p)
 
 
@@ -274,7 +274,7 @@ def both_ask(p, rng):
     """Each sends KEXINIT before it has seen the other's: that is one exchange."""
     begun(p)
     granted(p)
-    kexinits(p)
+    kexinits(p, by="us")
     turned(p)
     need(p.read()[:5] == disconnect(11)[:5], "no DISCONNECT at the end")
     p.done = True
@@ -325,6 +325,9 @@ def under_way(p, rng):
     """Data, a request and a message that nobody knows come behind dock's KEXINIT and ahead of this side's. All are taken; but for UNIMPLEMENTED
     nothing is answered before dock's NEWKEYS."""
     begun(p, rng.turn % 2 == 0)
+    for _ in range(rng.turn % 3):  # ahead of the login, whose signature is over the identifier
+        kexinits(p)
+        turned(p)
     sent = logged_in(p)
     theirs = their_kexinit(p)
     if p.serves:
@@ -382,8 +385,7 @@ def exact_peers(programs, dock):
                     need(p.done, "it ended before its good-bye")
                     rest, later = later_exchanges(out)
                     need(f"exchange 1 identifier {p.id.hex()}\n" in rest, "another identifier")
-                    need(len(later) + 1 == p.exchanges and later[-1].h == p.h.hex(), "another H")
-                    need(all(x.by == ("us" if more else "the peer") for x in later), "asked for by another")
+                    need([x.by for x in later] == p.by and later[-1].h == p.h.hex(), "later exchanges are others:", out)
                 except Failure as e:
                     raise Failure(f"{name}, as {'server' if serves else 'client'}: {e}") from None
     return f"{len(EXACT)} as client, {len(EXACT)} as server"
