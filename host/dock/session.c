@@ -60,6 +60,13 @@ struct session {
 /* The client's data: what comes back must be the same. */
 static uint8_t data_at(uint64_t i) { return (uint8_t)(i ^ i >> 8 ^ i >> 16); }
 
+static void show_message(const struct session *s, const char *direction, unsigned message, size_t len)
+{
+    char what[16];
+    snprintf(what, sizeof what, "message %u", message & 255);
+    show(s->link->show, direction, what, (long)len, -1, -1);
+}
+
 /* ---- what comes in */
 
 static bool owe(struct session *s, uint8_t message)
@@ -193,7 +200,7 @@ static bool take(void *of, span payload)
     struct session *s = of;
     unsigned message = payload.len > 0 ? payload.at[0] : 0;
     span rest = {payload.at + 1, payload.len > 0 ? payload.len - 1 : 0};
-    show(s->link->show, "<-", "message", (long)payload.len, -1, -1);
+    show_message(s, "<-", message, payload.len);
     if (message >= CHANNEL_OPEN_CONFIRMATION && message <= CHANNEL_FAILURE) return take_of_channel(s, message, payload, rest);
     if (message == GLOBAL_REQUEST && s->stage > LOGIN) return take_global_request(s, payload, rest);
     if (message == USERAUTH_REQUEST && !s->client) return s->stage > LOGIN || take_login(s, payload, rest); /* behind a login it is passed over */
@@ -213,7 +220,7 @@ static bool take(void *of, span payload)
 static bool send_blob(struct session *s, const struct blob *b)
 {
     if (b->short_of_room) return trouble("own message %u is too long", (unsigned)b->at[0]);
-    show(s->link->show, "->", "message", (long)b->len, -1, -1);
+    show_message(s, "->", b->at[0], b->len);
     return link_send(s->link, b->at, b->len);
 }
 
@@ -381,9 +388,11 @@ static bool session(struct session *s)
     s->link = kex_link(s->kex);
     s->granted = WINDOW;
     while (!(s->closed && s->close_sent && s->owed_count == 0)) {
-        s->link->may_leave = s->close_sent && s->owed_count == 0; /* a client that has nothing else to do may not wait for its own CLOSE to go out */
-        if (!go_on(s) && !s->link->left) return false;
-        if (s->link->left) break;
+        s->link->may_leave = s->close_sent && s->owed_count == 0; /* ssh does not wait for its own CLOSE to go out where new keys are due ahead of it */
+        if (!go_on(s)) {
+            if (!s->link->left) return false;
+            break;
+        }
     }
     if (s->client && (!s->end_sent || s->got != s->sent)) return trouble("the peer closed the channel ahead of time");
     link_disconnect(s->link, REASON_BY_APPLICATION, "all data went there and back");

@@ -196,7 +196,7 @@ class Programs:
     def login(self, host_key):
         """Who this user's sshd lets in by that key, for its configuration; and dock's options for it."""
         allowed = self.write(f"allowed_{host_key}", self.public(host_key) + "\n")
-        return [f"AuthorizedKeysFile {allowed}"], ["--login", pwd.getpwuid(os.geteuid()).pw_name, "--key", self.key(host_key)]
+        return [f"AuthorizedKeysFile {allowed}", "PermitUserRC no"], ["--login", pwd.getpwuid(os.geteuid()).pw_name, "--key", self.key(host_key)]
 
     def log(self, name="sshd"):
         with open(self.path(f"{name}.log"), errors="replace") as f:
