@@ -16,7 +16,7 @@ struct kex {
     struct link link;
     uint64_t role;
 
-    castulfrisa_session session; /* after the last exchange: how many there were */
+    castulfrisa_session session; /* what the core told behind the last exchange: how many there were, and the identifier */
     uint8_t id[CASTULFRISA_H_SIZE];
     struct asked asked;
     bool by_us; /* asked for the exchange that runs */
@@ -374,10 +374,10 @@ static bool give_verdict(struct kex *k, span host_key, span signature, const cha
         k->host_key_len = host_key.len;
     }
     if (number != CASTULFRISA_VERDICT) return accepted(k, "verdict", number);
-    const char *why = !holds          ? "signature over H does not hold"
-        : !same                       ? "is not that of the first exchange"
-        : *known == KNOWN_DIFFERS     ? "differs from the known one"
-                                      : "not known";
+    const char *why = !holds      ? "signature over H does not hold"
+        : !same                   ? "is not that of the first exchange"
+        : *known == KNOWN_DIFFERS ? "differs from the known one"
+                                  : "not known";
     return peer_fault(&k->link, "host key %s %s: %s (number %u: %s)", k->scheme->name, print, why, (unsigned)number,
                       castulfrisa_text(number));
 }
@@ -539,7 +539,11 @@ bool kex_ask(struct kex *k, bool (*take)(void *of, span payload), void *of)
     span payload;
     if (!send_kexinit(k)) return false;
     while (link_receive(&k->link, &payload)) {
-        if (is_kexinit(payload)) return exchange(k, payload, true) && ++k->asked.own > 0;
+        if (is_kexinit(payload)) {
+            if (!exchange(k, payload, true)) return false;
+            k->asked.own++;
+            return true;
+        }
         if (!take(of, payload)) return false;
         k->asked.between++;
     }
