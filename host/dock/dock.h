@@ -1,6 +1,6 @@
-/* dock: one SSH connection over a socket, as client or as server: its key exchange, those that follow it, and the first service behind it. The
-   core (castulfrisa.h) reads and writes the messages, builds the hash input, hashes it and derives the keys; libcrypto does curves, KEMs, signatures, ciphers and MACs; here are the
-   sockets, packets and files around them. */
+/* dock: one SSH connection over a socket, as client or as server: its first key exchange, those that follow it, and a service behind them. The core
+   (castulfrisa.h) reads and writes the messages, builds the hash input, hashes it and derives the keys; libcrypto does curves, KEMs, signatures,
+   ciphers and MACs; here are the sockets, packets and files around them. */
 #ifndef DOCK_H
 #define DOCK_H
 

@@ -1,5 +1,5 @@
-/* Behind the first service, no more than it takes for data to go both ways while keys change: a login (RFC 4252) with a key or without
-   any, and one session channel (RFC 4254). A client asks for `cat` and judges what comes back, a server sends everything back.
+/* Behind the first service, no more than it takes for data to go both ways while keys change: a login (RFC 4252) with a key or without any,
+   and one session channel (RFC 4254). A client asks for `cat` and judges what comes back, a server sends everything back.
 
    A message that comes in is taken without anything going out, for it may have been under way when we asked for an exchange (RFC 4253, 7.1). What it
    asks for is owed, and goes out when no exchange runs. */
@@ -50,10 +50,10 @@ struct session {
     uint32_t granted;                 /* what the peer may still send */
     uint8_t waiting[WINDOW];          /* server: what is to go back */
     size_t waiting_len;
-    uint64_t sent, got;  /* bytes of data */
-    long own;    /* exchanges that we asked for, as of when data last went out */
-    bool moved;  /* data went out since the last of them */
-    bool last;   /* data went out since the last that is waited for */
+    uint64_t sent, got; /* bytes of data */
+    long own;           /* exchanges that we asked for, as of the last look */
+    bool moved;         /* data went out since the last of them */
+    bool last;          /* data went out behind the last that is waited for */
     bool ended, end_sent, closed, close_sent; /* EOF and CLOSE, the peer's and ours */
 };
 

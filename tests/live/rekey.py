@@ -439,7 +439,8 @@ def changed_message(p, rng):
     in_exchange(p, rng)
     payload = p.reply() if p.serves else init()
     low = p.reply(s=rng.choice(LOW_ORDER)) if p.serves else init(rng.choice(LOW_ORDER))
-    payload, number = rng.case([(cut(rng, payload[:-1]) or payload[:1], 12), (longer(rng, payload), 13), (low, 16), (b"", 10), (payload[:1] + b"\xff" + payload[2:], 12)])
+    payload, number = rng.case([(cut(rng, payload[:-1]) or payload[:1], 12), (longer(rng, payload), 13), (low, 16), (b"", 10),
+                                (payload[:1] + b"\xff" + payload[2:], 12)])
     p.must = FAULT, number
     say(p, payload)
 
