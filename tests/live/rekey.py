@@ -78,7 +78,8 @@ def with_openssh(programs, dock):
     """Four ways, each twice; and both sides asking, so that KEXINITs may cross."""
     allowed, options = programs.login(ED25519)
     ports = {limit: programs.sshd(allowed + [f"RekeyLimit {limit}"], f"sshd_{limit}") for limit in ("default", "16", "1K")}
-    runs = []
+    known = programs.write("known_later", "".join(f"[127.0.0.1]:{port} {programs.public(ED25519)}\n" for port in ports.values()))
+    options, runs = [*options, "--known-hosts", known], []
     for way in WAYS:
         runs += [
             as_client(dock, ports["default"], way, options, "--rekey", LEAST, by="us"),
