@@ -1,6 +1,6 @@
 -- A host's numbers: a law for each `return`; a wide number is judged as it came; what a strange KEM outcome meets. Assumes nothing.
 use Prim.Native.Nat.{ℕ, _≤_, _<_}
-use mathlib.Core.Path.{_≡_, refl, sym, _∙_}
+use mathlib.Core.Path.{_≡_, refl, sym, ap, _∙_}
 use mathlib.Core.List.{List}
 use mathlib.Core.Bool.{Bool, true, false, cond, not, _&&_}
 use native.Mathlib.Omega.{arith}
@@ -15,9 +15,11 @@ use Rattle.methods.specs.Rows.{hybrid, rowOf, rows, rowIn, noRow}
 use Rattle.methods.specs.declared.KForm.{KForm}
 use Rattle.methods.specs.declared.KForm.the-variants.{Mpint, Digest}
 use Rattle.methods.specs.declared.Method.{Method}
-use Rattle.exchange.specs.Causes.{methodOk, roleOk, startCause, present, kemOk, restOk, xOk, secretCause}
-use Rattle.exchange.specs.Record.{ended}
+use Rattle.exchange.specs.Causes.{methodOk, roleOk, startCause, againCause, present, kemOk, restOk, xOk, secretCause}
+use Rattle.exchange.specs.Record.{noSession, ended, completed}
 use Rattle.exchange.specs.Steps.{started, startedRoom}
+use Rattle.exchange.specs.Again.{againNumber}
+use Rattle.exchange.specs.declared.Exchange.{Exchange}
 use Rattle.exchange.specs.declared.Classical.{Classical}
 use Rattle.exchange.specs.declared.Classical.the-variants.{Failed as NoX, Given}
 use Rattle.exchange.specs.declared.Kem.{Kem}
@@ -72,7 +74,7 @@ kem-four role m n cl x kPq ks s h = unless-fails _ 4 _ (second (xOk (rowOf m) cl
 -- ---- a role or a method that is no byte is refused as the byte 0 is
 
 abbrev refusal : Step
-refusal = record { number = 2; count = 0; second = 0; exchange = ended 2 0 0 }
+refusal = record { number = 2; count = 0; second = 0; exchange = ended 2 0 0 noSession }
 
 module _ (vc vs ic is : List ℕ) where
   strange : (role m : ℕ) (room : ℕ) → methodOk m && roleOk role ≡ false → started role m vc vs ic is room ≡ refusal
@@ -109,6 +111,40 @@ module _ (vc vs ic is : List ℕ) where
           let h = high-method role m (leb-false m 255 e) in
           let g = high-method (cond b role 0) m (leb-false m 255 e) in
           (strange (cond b role 0) 0 (length room) (g .1) ∙ sym (strange role m (length room) (h .0)), strange-room (cond b role 0) 0 room (g .1) ∙ sym (strange-room role m room (h .0)))
+
+-- and so does a beginning
+module _ (e : Exchange) (room m : ℕ) (ic is : List ℕ) where
+  again-strange : (n : ℕ) → methodOk n ≡ false → (againNumber e room n ic is ≡ causeUnless (completed e) 1 2) × (eqb (againNumber e room n ic is) 0 ≡ false)
+  unfolding againNumber againCause causeUnless
+  again-strange n h =
+      let k = ap (causeUnless (completed e) 1) (unless-fails (methodOk n) 2 _ h) in
+      (k, ap (λ (x : ℕ). eqb x 0) k ∙ by-test (completed e))
+    where
+      by-test : (t : Bool) → eqb (causeUnless t 1 2) 0 ≡ false
+      by-test true = refl
+      by-test false = refl
+
+  high-again : 255 < m → methodOk m ≡ false
+  unfolding methodOk
+  high-again h = within-high 1 9 m (omega arith)
+
+  none-again : methodOk 0 ≡ false
+  unfolding methodOk
+  none-again = refl
+
+  -- in its number and in whatever goes by it
+  pub again-wide : {A : Type 0} (F : ℕ → A) (y : A) → (againNumber e room (byteOf m) ic is ≡ againNumber e room m ic is)
+      × (cond (eqb (againNumber e room (byteOf m) ic is) 0) (F (byteOf m)) y ≡ cond (eqb (againNumber e room m ic is) 0) (F m) y)
+  unfolding byteOf
+  again-wide F y = by-test (leb m 255) refl
+    where
+      by-test : (t : Bool) → leb m 255 ≡ t → (againNumber e room (cond t m 0) ic is ≡ againNumber e room m ic is)
+          × (cond (eqb (againNumber e room (cond t m 0) ic is) 0) (F (cond t m 0)) y ≡ cond (eqb (againNumber e room m ic is) 0) (F m) y)
+      by-test true w = (refl, refl)
+      by-test false w =
+          let a = again-strange 0 none-again in
+          let b = again-strange m (high-again (leb-false m 255 w)) in
+          (a .0 ∙ sym (b .0), ap (λ (u : Bool). cond u (F 0) y) (a .1) ∙ sym (ap (λ (u : Bool). cond u (F m) y) (b .1)))
 
 -- and a lookup finds no method in a number that is no byte
 high-row : (m : ℕ) → 255 < m → rowOf m ≡ noRow

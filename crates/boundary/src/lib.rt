@@ -4,8 +4,9 @@
 use names::Cursor;
 ghost use mathlib.Core.Path.{_≡_};
 ghost use mathlib.Core.List.{[], _∷_, _++_};
+ghost use mathlib.Core.Bool.{cond};
 ghost use lib.ListN.{length};
-ghost use Rattle.limits.specs.Limits.{libraryVersion};
+ghost use Rattle.limits.specs.Limits.{hSize, libraryVersion};
 ghost use Rattle.buffers.specs.Bytes.{zeros};
 ghost use Rattle.wire.specs.Strings.{string, readString};
 ghost use Rattle.writers.specs.Writers.{wrote, leaves, stringCause};
@@ -22,7 +23,7 @@ ghost use Rattle.exchange.specs.Steps.{ownC, init, reply, secret as secretStep,
 ghost use Rattle.arguments.specs.Arguments.{isYes, classicalOf, kemOf};
 ghost use Rattle.stored.specs.Stored.{stageNumber, failNumber, decoded, byFit};
 ghost use Rattle.keys.specs.Derived.{deriveCause, keyIn};
-ghost use Rattle.lent.specs.Lent.{placeOf, left, lentStart, lentCall};
+ghost use Rattle.lent.specs.Lent.{placeOf, left, lentStart, lentCall, sessionKnown, lentAgain};
 ghost use Rattle.lent_hash.specs.LentHash.{hashLeft, hashStartLeft, hashFeedLeft, hashFinishLeft};
 ghost use Rattle.boundary.specs.Answers.{cursorOf, cursorNumbers, openedNumbers, choiceNumbers};
 
@@ -222,6 +223,21 @@ pub extern "C" fn castulfrisa_start(
     lent_steps::start(ex, r, m, vc, vs, ic, is, room) as u64
 }
 
+// Begins a complete exchange again, with the V's that stand in the room. A method's number is judged as it came.
+#[no_mangle]
+pub extern "C" fn castulfrisa_again(
+    ex: &mut [u8],
+    room: &mut [u8],
+    method: u64,
+    ic: &[u8],
+    is: &[u8],
+) -> u64
+    ensures { λ n. ⌜ left n [] (now (ex .exit)) (now (room .exit)) [] ≡ lentAgain (now (ex .entry)) (now (room .entry)) method (now (ic .entry)) (now (is .entry)) ⌝ }
+{
+    let m = arguments::byte_of(method);
+    lent_again::again(ex, room, m, ic, is) as u64
+}
+
 // Client, own C. Told: INIT's count.
 #[no_mangle]
 pub extern "C" fn castulfrisa_own_c(
@@ -388,6 +404,21 @@ pub extern "C" fn castulfrisa_reply_signature(
         ⌜ (n ≡ byFit b (number (decoded b) (now (room .entry)) q) 1) × (now (place .exit) ≡ byFit b (placeOf (stepPart (decoded b) (now (room .entry)) q (now (payload .entry)) 2)) (zeros 2)) ⌝ }
 {
     lent_parts::reply_part(ex, room, payload, 2, place) as u64
+}
+
+// The session of an exchange at any stage. Told: the identifier's length, how many exchanges were completed, and the identifier, zeros after it.
+#[no_mangle]
+pub extern "C" fn castulfrisa_session_id(
+    ex: &[u8],
+    told: &mut [u64; 2],
+    id: &mut [u8; limits::H_SIZE],
+) -> u64
+    ensures { λ n.
+        let b = now (ex .entry) in
+        let s = decoded b .session in
+        ⌜ (n ≡ cond (sessionKnown b) 0 1) × (now (told .exit) ≡ cond (sessionKnown b) (s .len ∷ s .count ∷ []) (zeros 2)) × (now (id .exit) ≡ cond (sessionKnown b) (s .id) (zeros hSize)) ⌝ }
+{
+    lent_parts::session(ex, told, id) as u64
 }
 
 // A key of a complete exchange, at the output's beginning.

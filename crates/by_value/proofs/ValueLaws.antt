@@ -7,7 +7,7 @@ use native.Mathlib.Omega.{arith}
 use lib.ListN.{length}
 use lib.Dec.{leb, eqb}
 use borrow.Author.Tests.{leb-true, le-leb}
-use Rattle.limits.specs.Limits.{lengthMost, kSize, hSize, exchangeSize}
+use Rattle.limits.specs.Limits.{lengthMost, kSize, hSize, countMost, exchangeSize}
 use Rattle.limits.proofs.BoolLaws.{and-true, both, holds, fails}
 use Rattle.buffers.specs.Bytes.{zeros}
 use Rattle.wire.proofs.CauseLaws.{unless-fails}
@@ -18,14 +18,16 @@ use Rattle.exchange.specs.Steps.{Call, number, stepNumber, secondOf, countOf, e
 use Rattle.exchange.specs.declared.Lengths.{Lengths}
 use Rattle.exchange.specs.declared.Exchange.{Exchange}
 use Rattle.exchange.specs.declared.Step.{Step}
+use Rattle.exchange.specs.Again.{againAfter, againRoom, againAnswered}
 use Rattle.exchange.proofs.StepLaws.{step-refused}
+use Rattle.exchange.proofs.SessionLaws.{again-refused-keeps}
 use Rattle.stored.specs.Stored.{encoded, decoded, blank, byFit, bySize}
 use Rattle.stored.proofs.StoredLaws.{size-taken, fits-known}
 use Rattle.stored.proofs.RoundTrip.{Short, decoded-encoded, encoded-fits}
-use Rattle.lent.specs.Lent.{Left, left, tells, writes, outputsAfter, untouched, lentCall, startLeft, lentStart}
-use Rattle.lent.proofs.Kept.{Storable, step-storable, start-storable, lent-is-step, long-not-due, long-refused}
-use Rattle.lent.proofs.AsStep.{AsStep, as-step}
-use Rattle.by_value.specs.ByValue.{fitsTwo, withExchange, back}
+use Rattle.lent.specs.Lent.{Left, left, tells, writes, outputsAfter, untouched, lentCall, startLeft, lentStart, lentAgain}
+use Rattle.lent.proofs.Kept.{Storable, Within, step-storable, start-storable, again-storable, lent-is-step, long-not-due, long-refused, long-not-again}
+use Rattle.lent.proofs.AsStep.{AsStep, as-step, byAgain, as-again}
+use Rattle.by_value.specs.ByValue.{fitsTwo, fitsBytes, withExchange, back}
 
 -- ---- lengths that two bytes hold
 
@@ -49,31 +51,45 @@ short-fits : (l : Lengths) → Short l → fitsTwo l ≡ true
 unfolding fitsTwo
 short-fits l s = search (both, one-back)
 
+bytes-known : (e : Exchange) → fitsBytes e ≡ true → Within e
+unfolding fitsBytes
+bytes-known e h =
+    let t = and-true (fitsTwo (e .lens) && leb (e .session .len) lengthMost) (leb (e .session .count) countMost) h in
+    let u = and-true (fitsTwo (e .lens)) (leb (e .session .len) lengthMost) (t .0) in
+    record { lens = short-known (e .lens) (u .0); len = leb-true (e .session .len) lengthMost (u .1); count = leb-true (e .session .count) countMost (t .1) }
+
+bytes-fits : (e : Exchange) → Within e → fitsBytes e ≡ true
+unfolding fitsBytes
+bytes-fits e h = both (both (short-fits (e .lens) (h .lens)) (le-leb (e .session .len) lengthMost (h .len))) (le-leb (e .session .count) countMost (h .count))
+
 -- ---- the bytes
 
--- K's record and H are as long as their types have them
+-- K's record, H and the session identifier are as long as their types have them
 abbrev pub Sized : Exchange → Type 0
-Sized e = (length (e .k) ≡ kSize) × (length (e .h) ≡ hSize)
+Sized e = (length (e .k) ≡ kSize) × (length (e .h) ≡ hSize) × (length (e .session .id) ≡ hSize)
 
 -- what `lay` answers, and makes of as many zeros as an exchange has bytes
 abbrev pub Laid : Exchange → Bool → List ℕ → Type 0
-Laid e t b = (t ≡ fitsTwo (e .lens)) × (b ≡ withExchange (zeros exchangeSize) e)
+Laid e t b = (t ≡ fitsBytes e) × (b ≡ withExchange (zeros exchangeSize) e)
 
 module _ (e : Exchange) (t : Bool) (b : List ℕ) (l : Laid e t b) where
-  pub laid-long : not t ≡ true → ¬ Short (e .lens)
-  laid-long h s = false≢true (sym (fails (l .0) h) ∙ short-fits (e .lens) s)
+  pub laid-long : not t ≡ true → ¬ Within e
+  laid-long h s = false≢true (sym (fails (l .0) h) ∙ bytes-fits e s)
 
   pub laid-short : not t ≡ false → Sized e → Storable e × (b ≡ encoded e)
   unfolding withExchange
   laid-short h k =
       let f = holds (l .0) h in
-      (record { short = short-known (e .lens) f; k-size = k .0; h-size = k .1 }, l .1 ∙ rw f (sym (size-taken (zeros exchangeSize) (zeros exchangeSize) (encoded e) refl)))
+      let w = bytes-known e f in
+      let n = w .len in
+      let m = w .count in
+      (record { short = w .lens; session = record { len = omega arith; count = omega arith }; k-size = k .0; h-size = k .1; id-size = k .2 }, l .1 ∙ rw f (sym (size-taken (zeros exchangeSize) (zeros exchangeSize) (encoded e) refl)))
 
 -- the exchange comes back
 exchange-back : (x : Exchange) (b : List ℕ) → Storable x → b ≡ encoded x → bySize b (decoded b) blank ≡ x
 exchange-back x b h e =
-    let n : length b ≡ exchangeSize = ap length e ∙ fits-known (encoded x) (encoded-fits x (h .k-size) (h .h-size)) .0 in
-    sym (size-taken b blank (decoded b) n) ∙ ap decoded e ∙ decoded-encoded x (h .short) (h .k-size)
+    let n : length b ≡ exchangeSize = ap length e ∙ fits-known (encoded x) (encoded-fits x (h .k-size) (h .h-size) (h .id-size)) .0 in
+    sym (size-taken b blank (decoded b) n) ∙ ap decoded e ∙ decoded-encoded x (h .short) (h .session) (h .k-size) (h .h-size)
 
 -- ---- a step's number
 
@@ -156,3 +172,24 @@ module _ (role m : ℕ) (vc vs ic is room : List ℕ) where
       let c = start-counts (length room) in
       let x = exchange-back (s .exchange) ex (start-storable role m vc vs ic is (length room)) (ap (λ (y : Left). y .exchange) k) in
       ((λ i. record { number = k i .number; count = c .0 i; second = c .1 i; exchange = x i }), ap (λ (y : Left). y .room) k)
+
+-- ---- to begin again
+
+module _ (e : Exchange) (room : List ℕ) (m : ℕ) (ic is : List ℕ) (t : Bool) (b : List ℕ) (l : Laid e t b) where
+  -- one that the bytes cannot hold
+  pub again-long : not t ≡ true → (refusedStep 1 e ≡ againAnswered e (length room) m ic is) × (room ≡ againRoom e room m ic is)
+  unfolding kind againAnswered
+  again-long h =
+      let n = long-not-again e (length room) m ic is (laid-long e t b l h) in
+      let k = again-refused-keeps e room m ic is (λ z. let w : ⊥ = omega (arith, n, z) in w) in
+      ((λ i. record { number = sym n i; count = 0; second = 0; exchange = sym (k .0) i }), sym (k .1))
+
+  -- others
+  pub again-value : not t ≡ false → Sized e → (n : ℕ) (ex room′ : List ℕ) → left n [] ex room′ [] ≡ lentAgain b room m ic is
+      → (back n 0 0 ex ≡ againAnswered e (length room) m ic is) × (room′ ≡ againRoom e room m ic is)
+  unfolding back againAnswered
+  again-value h z n ex room′ c =
+      let s = laid-short e t b l h z in
+      let k : left n [] ex room′ [] ≡ byAgain e room m ic is = c ∙ ap (λ (y : List ℕ). lentAgain y room m ic is) (s .1) ∙ sym (as-again e room m ic is (s .0)) in
+      let x = exchange-back (againAfter e (length room) m ic is) ex (again-storable e (length room) m ic is (s .0)) (ap (λ (y : Left). y .exchange) k) in
+      ((λ i. record { number = k i .number; count = 0; second = 0; exchange = x i }), ap (λ (y : Left). y .room) k)

@@ -3,7 +3,7 @@ use Prim.Native.Nat.{ℕ}
 use mathlib.Core.List.{List}
 use mathlib.Core.Bool.{Bool, cond, _&&_}
 use lib.Dec.{leb}
-use Rattle.limits.specs.Limits.{lengthMost}
+use Rattle.limits.specs.Limits.{lengthMost, countMost}
 use Rattle.exchange.specs.declared.Lengths.{Lengths}
 use Rattle.exchange.specs.declared.Exchange.{Exchange}
 use Rattle.exchange.specs.declared.Step.{Step}
@@ -20,9 +20,13 @@ fitsTwo l =
     && leb (l .c) lengthMost
     && leb (l .s) lengthMost
 
--- lent bytes with an exchange laid into them: they stay as they were unless they are as many as one has, and two of them hold each length
+-- and a session's numbers no greater than any that fits
+unfoldable pub fitsBytes : Exchange → Bool
+fitsBytes e = fitsTwo (e .lens) && leb (e .session .len) lengthMost && leb (e .session .count) countMost
+
+-- lent bytes with an exchange laid into them: they stay as they were unless they are as many as one has, and hold what it records
 unfoldable pub withExchange : List ℕ → Exchange → List ℕ
-withExchange b e = cond (fitsTwo (e .lens)) (bySize b (encoded e) b) b
+withExchange b e = cond (fitsBytes e) (bySize b (encoded e) b) b
 
 -- the answer that the bytes give back
 unfoldable pub back : ℕ → ℕ → ℕ → List ℕ → Step

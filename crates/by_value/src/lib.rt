@@ -1,11 +1,11 @@
 // What the calls by value stand on: an exchange goes into bytes of its own, the step on bytes is called, and the exchange comes back. Only one whose
-// lengths fit two bytes can go there; no step is due on another.
+// numbers fit their bytes can go there; no step is due on another.
 use exchange::Exchange;
 use exchange::Lengths;
 use exchange::Step;
 ghost use mathlib.Core.Path.{_≡_};
 ghost use Rattle.exchange.specs.Steps.{stepNumber, refusedStep};
-ghost use Rattle.by_value.specs.ByValue.{fitsTwo, withExchange, back};
+ghost use Rattle.by_value.specs.ByValue.{fitsTwo, fitsBytes, withExchange, back};
 
 // Whether two bytes hold each length. By `&` there is one way through, and so one fact to prove.
 fn fits_two(l: Lengths) -> bool
@@ -20,12 +20,20 @@ fn fits_two(l: Lengths) -> bool
         & (l.s <= limits::LENGTH_MOST)
 }
 
-// Lays an exchange into lent bytes where its lengths fit two bytes each, and answers whether they do.
-pub fn lay(b: &mut [u8], e: Exchange) -> bool
-    ensures { λ r. ⌜ (r ≡ fitsTwo (e .lens)) × (now (b .exit) ≡ withExchange (now (b .entry)) e) ⌝ }
+// Whether the bytes hold what an exchange records: its lengths, and its session's numbers as far as any fits.
+fn fits_bytes(e: Exchange) -> bool
+    ensures { λ r. ⌜ r ≡ fitsBytes e ⌝ }
 {
     let l = e.lens;
-    if !fits_two(l) {
+    let s = e.session;
+    fits_two(l) & (s.len <= limits::LENGTH_MOST) & (s.count <= limits::COUNT_MOST)
+}
+
+// Lays an exchange into lent bytes where they hold what it records, and answers whether they do.
+pub fn lay(b: &mut [u8], e: Exchange) -> bool
+    ensures { λ r. ⌜ (r ≡ fitsBytes e) × (now (b .exit) ≡ withExchange (now (b .entry)) e) ⌝ }
+{
+    if !fits_bytes(e) {
         return false;
     }
     values::store(b, e);

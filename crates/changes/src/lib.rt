@@ -4,7 +4,7 @@ ghost use Prim.Native.Nat.{_+_, _≤_};
 ghost use lib.ListN.{length, set};
 ghost use Rattle.buffers.specs.Bytes.{laid};
 ghost use Rattle.stored.specs.Stored.{bySize};
-ghost use Rattle.changes.specs.Changes.{put16, putMarks, putHead};
+ghost use Rattle.changes.specs.Changes.{put16, putCount, putId, putMarks, putHead};
 
 // A length, in two bytes.
 fn put_u16(b: &mut [u8], at: usize, n: usize)
@@ -67,6 +67,35 @@ pub fn put_h(b: &mut [u8], h: &[u8])
         return;
     }
     buffers::put_bytes(b, stored::H_AT, h);
+}
+
+// How many exchanges were completed.
+pub fn put_count(b: &mut [u8], count: u64)
+    ensures { λ _. ⌜ now (b .exit) ≡ bySize (now (b .entry)) (putCount (now (b .entry)) count) (now (b .entry)) ⌝ }
+{
+    if b.len() != limits::EXCHANGE_SIZE {
+        return;
+    }
+    put_u16(b, stored::COUNT_AT, (count / 281474976710656) as usize);
+    put_u16(b, stored::COUNT_AT + 2, (count / 4294967296) as usize);
+    put_u16(b, stored::COUNT_AT + 4, (count / 65536) as usize);
+    put_u16(b, stored::COUNT_AT + 6, count as usize);
+}
+
+// The session identifier, which is H as it stands, and its length.
+pub fn put_id(b: &mut [u8], len: usize)
+    ensures { λ _. ⌜ now (b .exit) ≡ bySize (now (b .entry)) (putId (now (b .entry)) len) (now (b .entry)) ⌝ }
+{
+    if b.len() != limits::EXCHANGE_SIZE {
+        return;
+    }
+    transcript::move_up(
+        b,
+        stored::H_AT,
+        limits::H_SIZE,
+        stored::ID_AT - stored::H_AT,
+    );
+    put_u16(b, stored::SESSION_AT, len);
 }
 
 // The five single bytes.

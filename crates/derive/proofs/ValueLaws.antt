@@ -31,5 +31,5 @@ module _ (e : Exchange) (t : Bool) (b : List ℕ) (l : Laid e t b) (letter len :
   derive-value h k r out′ f g =
       let s = laid-short e t b l h k in
       let n = ap (λ (y : List ℕ). byFit y (deriveCause (decoded y) letter len (length out)) 1) (s .1) ∙ lent-is-step (λ (x : Exchange). deriveCause x letter len (length out)) 1 e (s .0) in
-      let d = ap decoded (s .1) ∙ decoded-encoded e (s .0 .short) (s .0 .k-size) in
+      let d = ap decoded (s .1) ∙ decoded-encoded e (s .0 .short) (s .0 .session) (s .0 .k-size) (s .0 .h-size) in
       (f ∙ n, g ∙ (λ i. outputAfter (n i) out (keyIn (d i) letter len)))

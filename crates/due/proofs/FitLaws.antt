@@ -19,12 +19,13 @@ use Rattle.methods.specs.declared.KForm.{KForm}
 use Rattle.methods.specs.declared.KForm.the-variants.{Mpint}
 use Rattle.methods.specs.declared.Method.{Method}
 use Rattle.exchange.specs.Causes.{methodOk, roleOk}
-use Rattle.exchange.specs.Record.{noLengths, nextStep, clientNext, serverNext, hasK, lengthsFit, kBodyFits, kFits, recordFits, due, isComplete, completed}
+use Rattle.exchange.specs.Record.{noLengths, nextStep, clientNext, serverNext, hasK, lengthsFit, kBodyFits, kFits, countFits, idFits, sessionFits, recordFits, due, isComplete, completed}
 use Rattle.exchange.specs.Steps.{stepNumber}
 use Rattle.exchange.specs.declared.Stage.{Stage}
 use Rattle.exchange.specs.declared.Lengths.{Lengths}
+use Rattle.exchange.specs.declared.Session.{Session}
 use Rattle.exchange.specs.declared.Exchange.{Exchange}
-use Rattle.stored.specs.Stored.{fits, lengthsIn, decoded, byFit, bySize}
+use Rattle.stored.specs.Stored.{fits, number16, number64, lengthsIn, decoded, byFit, bySize}
 use Rattle.stored.proofs.StoredLaws.{size-taken, fits-known, fit-taken, fit-left}
 
 -- ---- nextStep
@@ -80,9 +81,25 @@ module _ (e : Exchange) where
     unfolding recordFits methodOk
     record-lengths h = rw (within-is 1 methodLast (e .method) b c, h)
 
-    pub record-k : lengthsFit (rowOf (e .method)) (e .stage) (e .lens) ≡ true → kFits (rowOf (e .method)) (e .stage) (e .k) ≡ recordFits e
-    unfolding recordFits methodOk
-    record-k h = rw (within-is 1 methodLast (e .method) b c, h)
+    module _ (h : lengthsFit (rowOf (e .method)) (e .stage) (e .lens) ≡ true) where
+      pub record-k : kFits (rowOf (e .method)) (e .stage) (e .k) ≡ false → false ≡ recordFits e
+      unfolding recordFits methodOk
+      record-k k = rw (within-is 1 methodLast (e .method) b c, h, k)
+
+      pub record-session : kFits (rowOf (e .method)) (e .stage) (e .k) ≡ true → sessionFits (e .stage) (e .session) ≡ recordFits e
+      unfolding recordFits methodOk
+      record-session k = rw (within-is 1 methodLast (e .method) b c, h, k)
+
+-- ---- sessionFits
+
+module _ (stage : Stage) (s : Session) where
+  pub session-count : countFits (isComplete stage) (s .count) ≡ false → false ≡ sessionFits stage s
+  unfolding sessionFits
+  session-count h = rw h
+
+  pub session-id : countFits (isComplete stage) (s .count) ≡ true → idFits (s .len) (s .count) ≡ sessionFits stage s
+  unfolding sessionFits
+  session-id h = rw h
 
 -- ---- due, and completed
 
@@ -145,6 +162,15 @@ module _ (b : List ℕ) (f : fits b ≡ true) where
   k-size k h =
       let n = fits-known b f .0 in
       omega (arith, length-drop 19 b, length-take kSize (drop 19 b), ap length (h ∙ sym (size-taken b [] (take kSize (drop 19 b)) n)))
+
+  -- the session's numbers
+  pub len-read : (n : ℕ) → n ≡ bySize b (number16 b 154) 0 → n ≡ decoded b .session .len
+  unfolding decoded
+  len-read n h = h ∙ sym (size-taken b 0 (number16 b 154) (fits-known b f .0))
+
+  pub count-read : (n : ℕ) → n ≡ bySize b (number64 b 156) 0 → n ≡ decoded b .session .count
+  unfolding decoded
+  count-read n h = h ∙ sym (size-taken b 0 (number64 b 156) (fits-known b f .0))
 
   -- whether a step is due, or it is complete
   pub fit-and : (x y : Bool) → x ≡ y → x ≡ (fits b && y)

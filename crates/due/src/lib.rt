@@ -9,9 +9,9 @@ ghost use lib.ListN.{length};
 ghost use mathlib.Core.Bool.{true, _&&_};
 ghost use Rattle.methods.specs.Rows.{rowOf};
 ghost use Rattle.methods.specs.declared.KForm.the-variants.{Mpint};
-ghost use Rattle.exchange.specs.Record.{nextStep, hasC, hasS, hasK, cFits, sFits, lengthsFit, kBodyFits, kFits, recordFits, due, isComplete, completed};
+ghost use Rattle.exchange.specs.Record.{nextStep, hasC, hasS, hasK, cFits, sFits, lengthsFit, kBodyFits, kFits, countFits, idFits, sessionFits, recordFits, due, isComplete, completed};
 ghost use Rattle.exchange.specs.Steps.{stepNumber};
-ghost use Rattle.stored.specs.Stored.{fits, LengthBytes, decoded, byFit};
+ghost use Rattle.stored.specs.Stored.{fits, Halves, CountBytes, NumberBytes, decoded, byFit};
 
 // The step that comes next on a record, 0 for none.
 fn next_step(role: u8, stage: Stage) -> u8
@@ -170,40 +170,6 @@ fn mpint_fits(method: u8, n: usize) -> bool
     true
 }
 
-// Whether what an exchange in lent bytes records fits its stage. Where it does, its lengths were read, so that their bytes are known to be
-// below 256.
-fn record_fits(b: &[u8], stage: Stage) -> bool
-    requires { ⌜ (fits (now b) ≡ true) × (stage ≡ decoded (now b) .stage) ⌝ }
-    ensures { λ r. ⌜ (r ≡ recordFits (decoded (now (b .entry)))) × (r ≡ true → LengthBytes (now (b .entry))) ⌝ }
-{
-    let method = stored::byte_in(b, stored::METHOD_AT);
-    if method < 1 {
-        return false;
-    }
-    if limits::METHOD_LAST < method {
-        return false;
-    }
-    let l = stored::lengths_in(b);
-    if !lengths_fit(method, stage, l) {
-        return false;
-    }
-    k_fits(method, stage, stored::k_in(b))
-}
-
-// Whether a step is due on an exchange in lent bytes.
-fn is_due(n: u8, b: &[u8]) -> bool
-    ensures { λ r. ⌜ (r ≡ (fits (now (b .entry)) && due n (decoded (now (b .entry))))) × (r ≡ true → LengthBytes (now (b .entry))) ⌝ }
-{
-    if !stored::fits(b) {
-        return false;
-    }
-    let stage = stored::stage_in(b);
-    if next_step(stored::byte_in(b, stored::ROLE_AT), stage) != n {
-        return false;
-    }
-    record_fits(b, stage)
-}
-
 // Whether a stage is the last.
 fn is_last(stage: Stage) -> bool
     ensures { λ r. ⌜ r ≡ isComplete stage ⌝ }
@@ -219,9 +185,82 @@ fn is_last(stage: Stage) -> bool
     }
 }
 
+// Whether a complete exchange, or another, can have this count.
+fn count_fits(complete: bool, n: u64) -> bool
+    ensures { λ r. ⌜ r ≡ countFits complete n ⌝ }
+{
+    if complete {
+        if n < 1 {
+            return false;
+        }
+        return n <= limits::COUNT_MOST;
+    }
+    n < limits::COUNT_MOST
+}
+
+// Whether an identifier of so many bytes goes with a count.
+pub fn id_fits(len: usize, count: u64) -> bool
+    ensures { λ r. ⌜ r ≡ idFits len count ⌝ }
+{
+    if count == 0 {
+        return len == 0;
+    }
+    sha2::is_known(len)
+}
+
+// Whether the session's numbers fit a stage. Both are read, so that their bytes are known to be below 256.
+fn session_fits(b: &[u8], stage: Stage) -> bool
+    requires { ⌜ fits (now b) ≡ true ⌝ }
+    ensures { λ r. ⌜ (r ≡ sessionFits stage (decoded (now (b .entry)) .session)) × Halves (now (b .entry)) 154 × CountBytes (now (b .entry)) 156 ⌝ }
+{
+    let count = stored::count_in(b);
+    let len = stored::id_len_in(b);
+    if !count_fits(is_last(stage), count) {
+        return false;
+    }
+    id_fits(len, count)
+}
+
+// Whether what an exchange in lent bytes records fits its stage. Where it does, its numbers were read, so that their bytes are known to be
+// below 256.
+fn record_fits(b: &[u8], stage: Stage) -> bool
+    requires { ⌜ (fits (now b) ≡ true) × (stage ≡ decoded (now b) .stage) ⌝ }
+    ensures { λ r. ⌜ (r ≡ recordFits (decoded (now (b .entry)))) × (r ≡ true → NumberBytes (now (b .entry))) ⌝ }
+{
+    let method = stored::byte_in(b, stored::METHOD_AT);
+    if method < 1 {
+        return false;
+    }
+    if limits::METHOD_LAST < method {
+        return false;
+    }
+    let l = stored::lengths_in(b);
+    if !lengths_fit(method, stage, l) {
+        return false;
+    }
+    if !k_fits(method, stage, stored::k_in(b)) {
+        return false;
+    }
+    session_fits(b, stage)
+}
+
+// Whether a step is due on an exchange in lent bytes.
+fn is_due(n: u8, b: &[u8]) -> bool
+    ensures { λ r. ⌜ (r ≡ (fits (now (b .entry)) && due n (decoded (now (b .entry))))) × (r ≡ true → NumberBytes (now (b .entry))) ⌝ }
+{
+    if !stored::fits(b) {
+        return false;
+    }
+    let stage = stored::stage_in(b);
+    if next_step(stored::byte_in(b, stored::ROLE_AT), stage) != n {
+        return false;
+    }
+    record_fits(b, stage)
+}
+
 // Whether an exchange in lent bytes is complete, and what it records fits.
 pub fn is_complete(b: &[u8]) -> bool
-    ensures { λ r. ⌜ r ≡ (fits (now (b .entry)) && completed (decoded (now (b .entry)))) ⌝ }
+    ensures { λ r. ⌜ (r ≡ (fits (now (b .entry)) && completed (decoded (now (b .entry))))) × (r ≡ true → NumberBytes (now (b .entry))) ⌝ }
 {
     if !stored::fits(b) {
         return false;
@@ -243,7 +282,7 @@ pub fn is_complete(b: &[u8]) -> bool
 
 // A step's number: 1 where it is not due, 3 where the room is too short, then the first cause in what it was fed.
 pub fn step_number(n: u8, b: &[u8], room: usize, fed: u8) -> u8
-    ensures { λ r. ⌜ (r ≡ byFit (now (b .entry)) (stepNumber n (decoded (now (b .entry))) room fed) 1) × (r ≡ 0 → LengthBytes (now (b .entry))) ⌝ }
+    ensures { λ r. ⌜ (r ≡ byFit (now (b .entry)) (stepNumber n (decoded (now (b .entry))) room fed) 1) × ((r ≡ 1 → ⊥) → NumberBytes (now (b .entry))) ⌝ }
 {
     if !is_due(n, b) {
         return 1;

@@ -6,8 +6,8 @@ use mathlib.Core.Bool.{Bool, true, false, cond, _&&_, false≢true}
 use native.Mathlib.Omega.{arith}
 use lib.ListN.{length, getD, drop}
 use lib.Dec.{leb, ltb, eqb}
-use borrow.Author.Tests.{eqb-true, le-leb, eq-eqb, ltb-false}
-use Rattle.limits.specs.Limits.{versionMost, kexinitMost, stringMost, kPqSize, kSize, roomLeast, methodLast, server}
+use borrow.Author.Tests.{eqb-true, eqb-false, le-leb, eq-eqb, ltb-false}
+use Rattle.limits.specs.Limits.{versionMost, kexinitMost, stringMost, kPqSize, kSize, countMost, roomLeast, methodLast, server}
 use Rattle.limits.specs.Range.{within}
 use Rattle.limits.proofs.BoolLaws.{and-true, both}
 use Rattle.limits.proofs.RangeLaws.{within-least, within-most}
@@ -32,7 +32,7 @@ use Rattle.messages.specs.Payload.{messageCause}
 use Rattle.messages.specs.Messages.{initLayout, replyLayout, fieldOf}
 use Rattle.secret.specs.Secret.{kBytes}
 use Rattle.secret.proofs.SecretLaws.{k-some}
-use Rattle.exchange.specs.Causes.{versionOk, plain, kexinitOk, blobOk, methodOk, roleOk, startCause, ownCCause, initCause, replyCause, xOk, kemOk, kPqFor, kPqOk, ownOk, restOk, allZero, xBad, kemBad, secretCause, kOf}
+use Rattle.exchange.specs.Causes.{versionOk, plain, kexinitOk, blobOk, methodOk, roleOk, startCause, againCause, ownCCause, initCause, replyCause, xOk, kemOk, kPqFor, kPqOk, ownOk, restOk, allZero, xBad, kemBad, secretCause, kOf}
 use Rattle.exchange.specs.Record.{kLength, kBodyFits}
 use Rattle.exchange.specs.Steps.{kRecord}
 use Rattle.exchange.specs.declared.Classical.{Classical}
@@ -100,6 +100,23 @@ start-known role m vc vs ic is room z =
         ic-ok = and-true (within 1 kexinitMost (length ic)) (eqb (getD ic 0 0) 20) (e2 .1) .0;
         is-ok = and-true (within 1 kexinitMost (length is)) (eqb (getD is 0 0) 20) (e3 .1) .0;
       },
+    )
+
+-- ---- to begin again
+
+pub again-known : (m : ℕ) (ic is : List ℕ) (room count : ℕ) → againCause m ic is room count ≡ 0
+    → (methodOk m ≡ true) × (roomLeast ≤ room) × (within 1 kexinitMost (length ic) ≡ true) × (within 1 kexinitMost (length is) ≡ true) × (count ≡ countMost → ⊥)
+unfolding againCause kexinitOk
+again-known m ic is room count z =
+    let a = unless-none (methodOk m) 2 _ (omega arith) z in
+    let c = if-none (ltb room roomLeast) 3 _ (omega arith) (a .1) in
+    let d = unless-none _ 4 _ (omega arith) (c .1) in
+    let e = and-true (kexinitOk ic) (kexinitOk is) (d .0) in (
+      a .0,
+      ltb-false room roomLeast (c .0),
+      and-true (within 1 kexinitMost (length ic)) (eqb (getD ic 0 0) 20) (e .0) .0,
+      and-true (within 1 kexinitMost (length is)) (eqb (getD is 0 0) 20) (e .1) .0,
+      eqb-false count countMost (if-none (eqb count countMost) 23 0 (omega arith) (d .1) .0),
     )
 
 -- ---- C, and K_S with S

@@ -1,15 +1,15 @@
--- For each role and method there is a list of calls that completes an exchange. Assumes nothing.
+-- For each role and method there is a list of calls that completes an exchange, and one that completes two. Assumes nothing.
 use Prim.Native.Nat.{ℕ, zero, suc, _-_, _≤_, _<_}
 use mathlib.Core.Path.{_≡_, refl, ap, _∙_}
 use mathlib.Core.Logic.{⊎-elim}
-use mathlib.Core.List.{List, [], _∷_}
+use mathlib.Core.List.{List, [], _∷_, _++_}
 use mathlib.Core.Bool.{Bool, true, false, cond, not, _&&_, _||_}
 use native.Mathlib.Omega.{arith}
 use lib.ListN.{length, getD, replicate, length-append, length-replicate}
 use lib.Seq.{getD-at}
 use lib.Dec.{eqb}
 use borrow.Author.Tests.{le-ltb, eq-eqb, ne-eqb}
-use Rattle.limits.specs.Limits.{kSize, roomLeast, initLeast, replyLeast, server}
+use Rattle.limits.specs.Limits.{kSize, countMost, roomLeast, initLeast, replyLeast, server}
 use Rattle.limits.proofs.BoolLaws.{and-false, both}
 use Rattle.buffers.specs.Bytes.{zeros}
 use Rattle.wire.proofs.CauseLaws.{if-fails, unless-holds}
@@ -21,17 +21,20 @@ use Rattle.methods.specs.declared.Shape.{Shape}
 use Rattle.methods.specs.Sound.{Sound}
 use Rattle.methods.proofs.FormLaws.{formed-complete}
 use Rattle.messages.specs.Messages.{initBytes, replyBytes}
-use Rattle.exchange.specs.Causes.{methodOk, roleOk, versionOk, kexinitOk, startCause, ownCCause, initCause, replyCause, xOk, present, kPqFor, ownOk, restOk, allZero, kemBad, secretCause, signCause, verdictCause}
+use Rattle.exchange.specs.Causes.{methodOk, roleOk, versionOk, kexinitOk, startCause, againCause, ownCCause, initCause, replyCause, xOk, present, kPqFor, ownOk, restOk, allZero, kemBad, secretCause, signCause, verdictCause, hOf}
 use Rattle.exchange.specs.Record.{isComplete}
 use Rattle.exchange.specs.Steps.{Call, ownC, init, reply, sign, verdict, stepNo, fedCause, started, startedRoom}
-use Rattle.exchange.specs.Book.{Book, opened, stepsOf, firstCause, moved, noted, hasAll, lastBook}
+use Rattle.exchange.specs.Again.{Turn, again}
+use Rattle.exchange.specs.Book.{Past, Book, begun, opened, stepsOf, firstCause, fieldsAfter, moved, noted, hasAll, finished, againFirst, againNoted, hashInput, sessionOf, turnNoted, lastBook}
 use Rattle.exchange.specs.Demand.{lastExchange}
 use Rattle.exchange.proofs.KindLaws.{kind-accepted}
 use Rattle.exchange.proofs.ReadBack.{init-back, reply-back}
-use Rattle.exchange.proofs.Sample.{version, payload, blob, publicValue, kemFor, kPqIn, secretCall, clientCalls, serverCalls, sampleCalls}
+use Rattle.exchange.proofs.Sample.{version, payload, blob, publicValue, kemFor, kPqIn, secretCall, clientCalls, serverCalls, sampleCalls, turns, sampleTurns, twiceTurns}
 use Rattle.exchange.specs.declared.Classical.the-variants.{Given}
+use Rattle.exchange.specs.declared.Session.{Session}
 use Rattle.exchange.proofs.CauseFacts.{method-row}
-use Rattle.exchange.proofs.Simulation.{held, role-is}
+use Rattle.exchange.proofs.Simulation.{followed, held, role-is}
+use Rattle.exchange.proofs.HandedLaws.{complete-ready}
 
 -- ---- the values
 
@@ -113,36 +116,63 @@ moves room b q h f n z =
     let e : firstCause room b q ≡ 0 = if-fails (b .faulted) 1 _ f ∙ unless-holds _ 1 _ n ∙ if-fails _ 3 _ (le-ltb room roomLeast h) ∙ z in
     rw (kind-accepted (firstCause room b q) e)
 
-client-all : (m room : ℕ) → methodOk m ≡ true → roomLeast ≤ room → hasAll (lastBook room (opened 1 m version version payload payload) (clientCalls (rowOf m))) ≡ true
-unfolding opened fedCause hasAll
-client-all m room ok h =
+-- the samples' beginning, after these exchanges
+abbrev sample : List Past → ℕ → ℕ → Book
+sample past role m = begun past role m version version payload payload
+
+-- every step of a role done: the books that the samples leave
+abbrev clientDone : List Past → ℕ → Book
+clientDone past m =
+    moved (moved (moved (moved (sample past 1 m) (ownC (publicValue (rowOf m .c)) initLeast)) (reply (replyBytes blob (publicValue (rowOf m .s)) blob))) (secretCall (rowOf m) [] [])) (verdict true true kSize)
+
+abbrev serverDone : List Past → ℕ → Book
+serverDone past m = moved (moved (moved (sample past 2 m) (init (initBytes (publicValue (rowOf m .c))))) (secretCall (rowOf m) blob (publicValue (rowOf m .s)))) (sign blob replyLeast kSize)
+
+client-book : (past : List Past) (m room : ℕ) → methodOk m ≡ true → roomLeast ≤ room → lastBook room (sample past 1 m) (turns (clientCalls (rowOf m))) ≡ clientDone past m
+unfolding fedCause
+client-book past m room ok h =
     let q1 : Call = ownC (publicValue (rowOf m .c)) initLeast in
     let q2 : Call = reply (replyBytes blob (publicValue (rowOf m .s)) blob) in
     let q3 : Call = secretCall (rowOf m) [] [] in
     let q4 : Call = verdict true true kSize in
-    let b0 : Book = opened 1 m version version payload payload in
+    let b0 : Book = sample past 1 m in
     let b1 : Book = moved b0 q1 in
     let b2 : Book = moved b1 q2 in
     let b3 : Book = moved b2 q3 in
-    ap hasAll
-    (ap (λ (b : Book). noted room (noted room (noted room b q2) q3) q4) (moves room b0 q1 h refl refl (own-c-fed m ok))
+    ap (λ (b : Book). noted room (noted room (noted room b q2) q3) q4) (moves room b0 q1 h refl refl (own-c-fed m ok))
     ∙ ap (λ (b : Book). noted room (noted room b q3) q4) (moves room b1 q2 h refl refl (reply-fed m ok))
     ∙ ap (λ (b : Book). noted room b q4) (moves room b2 q3 h refl refl (secret-fed m ok 1 [] [] refl))
-    ∙ moves room b3 q4 h refl refl verdict-fed)
+    ∙ moves room b3 q4 h refl refl verdict-fed
 
-server-all : (m room : ℕ) → methodOk m ≡ true → roomLeast ≤ room → hasAll (lastBook room (opened 2 m version version payload payload) (serverCalls (rowOf m))) ≡ true
-unfolding opened fedCause hasAll
-server-all m room ok h =
+server-book : (past : List Past) (m room : ℕ) → methodOk m ≡ true → roomLeast ≤ room → lastBook room (sample past 2 m) (turns (serverCalls (rowOf m))) ≡ serverDone past m
+unfolding fedCause
+server-book past m room ok h =
     let q1 : Call = init (initBytes (publicValue (rowOf m .c))) in
     let q2 : Call = secretCall (rowOf m) blob (publicValue (rowOf m .s)) in
     let q3 : Call = sign blob replyLeast kSize in
-    let b0 : Book = opened 2 m version version payload payload in
+    let b0 : Book = sample past 2 m in
     let b1 : Book = moved b0 q1 in
     let b2 : Book = moved b1 q2 in
-    ap hasAll
-    (ap (λ (b : Book). noted room (noted room b q2) q3) (moves room b0 q1 h refl refl (init-fed m ok))
+    ap (λ (b : Book). noted room (noted room b q2) q3) (moves room b0 q1 h refl refl (init-fed m ok))
     ∙ ap (λ (b : Book). noted room b q3) (moves room b1 q2 h refl refl (secret-fed m ok 2 blob (publicValue (rowOf m .s)) (own-fed m ok)))
-    ∙ moves room b2 q3 h refl refl sign-fed)
+    ∙ moves room b2 q3 h refl refl sign-fed
+
+-- a book that completed an exchange after these, with the samples' V
+record Done (past : List Past) (role m : ℕ) (b : Book) : Type 0 where
+  is-role : b .role ≡ role
+  is-method : b .method ≡ m
+  all : hasAll b ≡ true
+  its-vc : b .fields .vc ≡ version
+  its-vs : b .fields .vs ≡ version
+  one-more : finished b ≡ record { method = m; fields = b .fields } ∷ past
+
+client-done : (past : List Past) (m : ℕ) → Done past 1 m (clientDone past m)
+unfolding finished hasAll fieldsAfter
+client-done past m = record { is-role = refl; is-method = refl; all = refl; its-vc = refl; its-vs = refl; one-more = refl }
+
+server-done : (past : List Past) (m : ℕ) → Done past 2 m (serverDone past m)
+unfolding finished hasAll fieldsAfter
+server-done past m = record { is-role = refl; is-method = refl; all = refl; its-vc = refl; its-vs = refl; one-more = refl }
 
 -- ---- the samples complete
 
@@ -151,18 +181,67 @@ unfolding startCause versionOk kexinitOk
 sample-start role m room r k h =
     unless-holds _ 2 _ (λ i. k i && r i) ∙ if-fails _ 3 _ (le-ltb room roomLeast h) ∙ unless-holds _ 4 0 refl
 
-sample-all : (role m room : ℕ) → roleOk role ≡ true → methodOk m ≡ true → roomLeast ≤ room → hasAll (lastBook room (opened role m version version payload payload) (sampleCalls role m)) ≡ true
+sample-done : (past : List Past) (role m room : ℕ) → roleOk role ≡ true → methodOk m ≡ true → roomLeast ≤ room → Done past role m (lastBook room (sample past role m) (sampleTurns role m))
 unfolding sampleCalls
-sample-all role m room r k h =
+sample-done past role m room r k h =
     ⊎-elim
-    (λ (e : role ≡ 1). rw e (client-all m room k h))
-    (λ (e : role ≡ 2). rw e (server-all m room k h))
+    (λ (e : role ≡ 1). rw (e, client-book past m room k h) (client-done past m))
+    (λ (e : role ≡ 2). rw (e, server-book past m room k h) (server-done past m))
     (role-is role r)
 
 -- for each role and method: the start is accepted, and the sample calls leave an exchange that records itself complete
 pub completes : (role m : ℕ) (room : List ℕ) → roleOk role ≡ true → methodOk m ≡ true → roomLeast ≤ length room
     → (startCause role m version version payload payload (length room) ≡ 0)
-    × (isComplete (lastExchange (started role m version version payload payload (length room) .exchange) (startedRoom role m version version payload payload room) (sampleCalls role m) .stage) ≡ true)
+    × (isComplete (lastExchange (started role m version version payload payload (length room) .exchange) (startedRoom role m version version payload payload room) (sampleTurns role m) .stage) ≡ true)
+unfolding opened
 completes role m room r k h =
     let z = sample-start role m (length room) r k h in
-    (z, held role m version version payload payload room z (sampleCalls role m) .complete ∙ sample-all role m (length room) r k h)
+    (z, held role m version version payload payload room z (sampleTurns role m) .complete ∙ sample-done [] role m (length room) r k h .all)
+
+-- ---- two exchanges in a row
+
+last-append : (room : ℕ) (b : Book) (qs rs : List Turn) → lastBook room b (qs ++ rs) ≡ lastBook room (lastBook room b qs) rs
+last-append room b [] rs = refl
+last-append room b (q ∷ qs) rs = last-append room (turnNoted room b q) qs rs
+
+-- a book that completed an exchange begins again
+begins-again : (past : List Past) (role m m′ room : ℕ) (b : Book) → Done past role m b → methodOk m′ ≡ true → roomLeast ≤ room → suc (length past) < countMost
+    → againNoted room b m′ payload payload ≡ sample (finished b) role m′
+unfolding againNoted againFirst againCause kexinitOk
+begins-again past role m m′ room b y k h l =
+    let c : length (finished b) ≡ suc (length past) = ap length (y .one-more) in
+    let z : againFirst room b m′ payload payload ≡ 0 =
+    unless-holds _ 1 _ (y .all) ∙ unless-holds _ 2 _ k ∙ if-fails _ 3 _ (le-ltb room roomLeast h) ∙ unless-holds _ 4 _ refl ∙ if-fails _ 23 0 (ne-eqb (length (finished b)) countMost (λ e. omega arith)) in
+    rw z (λ i. begun (finished b) (y .is-role i) m′ (y .its-vc i) (y .its-vs i) payload payload)
+
+twice-book : (role m m′ room : ℕ) → roleOk role ≡ true → methodOk m ≡ true → methodOk m′ ≡ true → roomLeast ≤ room
+    → let b = lastBook room (sample [] role m) (sampleTurns role m) in
+    Done (record { method = m; fields = b .fields } ∷ []) role m′ (lastBook room (sample [] role m) (twiceTurns role m m′))
+twice-book role m m′ room r k k′ h =
+    let b = lastBook room (sample [] role m) (sampleTurns role m) in
+    let y = sample-done [] role m room r k h in
+    let t = last-append room (sample [] role m) (sampleTurns role m) (again m′ payload payload ∷ sampleTurns role m′)
+    ∙ ap (λ (c : Book). lastBook room c (sampleTurns role m′)) (begins-again [] role m m′ room b y k′ h (omega arith) ∙ ap (λ (p : List Past). sample p role m′) (y .one-more)) in
+    rw t (sample-done (record { method = m; fields = b .fields } ∷ []) role m′ room r k′ h)
+
+-- for each role and any two methods: two exchanges complete, one after the other; the count is 2, and the identifier and its length are the first one's
+pub completes-twice : (role m m′ : ℕ) (room : List ℕ) → roleOk role ≡ true → methodOk m ≡ true → methodOk m′ ≡ true → roomLeast ≤ length room
+    → let e = lastExchange (started role m version version payload payload (length room) .exchange) (startedRoom role m version version payload payload room) (twiceTurns role m m′) in
+    (startCause role m version version payload payload (length room) ≡ 0)
+    × (isComplete (e .stage) ≡ true) × (e .method ≡ m′) × (e .session .count ≡ 2) × (e .session .len ≡ rowOf m .«digest_len»)
+    × (e .session .id ≡ hOf m (hashInput (lastBook (length room) (opened role m version version payload payload) (sampleTurns role m) .fields)))
+unfolding opened
+completes-twice role m m′ room r k k′ h =
+    let z = sample-start role m (length room) r k h in
+    let d = held role m version version payload payload room z (twiceTurns role m m′) in
+    let y = twice-book role m m′ (length room) r k k′ h in
+    let c = d .complete ∙ y .all in
+    let s = d .session-is ∙ ap sessionOf (y .one-more) in
+    let f = followed role m version version payload payload room z (twiceTurns role m m′) in (
+      z,
+      c,
+      complete-ready _ _ _ _ (f .2) c .method-is ∙ y .is-method,
+      ap (λ (x : Session). x .count) s,
+      ap (λ (x : Session). x .len) s,
+      ap (λ (x : Session). x .id) s,
+    )

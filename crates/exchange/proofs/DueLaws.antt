@@ -1,20 +1,25 @@
 -- Laws of `specs/Record.antt`: a record that fits has its next step due, a failed one none. Assumes nothing.
-use Prim.Native.Nat.{ℕ}
-use mathlib.Core.Path.{_≡_, refl, ap, _∙_}
-use mathlib.Core.Bool.{Bool, true, false, cond, _&&_}
+use Prim.Native.Nat.{ℕ, _+_, _≤_}
+use mathlib.Core.Path.{_≡_, refl, sym, ap, _∙_}
+use mathlib.Core.List.{List}
+use mathlib.Core.Bool.{Bool, true, false, cond, _&&_, _||_}
+use native.Mathlib.Omega.{arith}
 use lib.Dec.{eqb}
-use borrow.Author.Tests.{eqb-true}
-use Rattle.limits.specs.Limits.{versionMost, kexinitMost, client, server}
+use borrow.Author.Tests.{eqb-true, ne-eqb, ltb-true}
+use Rattle.limits.specs.Limits.{versionMost, kexinitMost, hSize, countMost, client, server}
 use Rattle.limits.specs.Range.{within}
-use Rattle.limits.proofs.BoolLaws.{and-true}
+use Rattle.limits.proofs.BoolLaws.{and-true, both}
+use Rattle.limits.proofs.RangeLaws.{within-is}
+use Rattle.sha_words.specs.Constants.{known}
 use Rattle.methods.specs.Rows.{rowOf}
 use Rattle.methods.specs.declared.Method.{Method}
 use Rattle.exchange.specs.Causes.{methodOk, roleOk}
-use Rattle.exchange.specs.Record.{nextStep, cFits, sFits, lengthsFit, kFits, recordFits, due, isComplete, completed}
+use Rattle.exchange.specs.Record.{nextStep, cFits, sFits, lengthsFit, kFits, countFits, idFits, sessionFits, recordFits, due, isComplete, completed}
 use Rattle.exchange.specs.declared.Stage.{Stage}
-use Rattle.exchange.specs.Steps.{withStage}
+use Rattle.exchange.specs.Steps.{withStage, oneMore, withLast}
 use Rattle.exchange.specs.declared.Stage.the-variants.{SecretDone, Complete, Failed}
 use Rattle.exchange.specs.declared.Lengths.{Lengths}
+use Rattle.exchange.specs.declared.Session.{Session}
 use Rattle.exchange.specs.declared.Exchange.{Exchange}
 
 -- ---- lengthsFit
@@ -47,22 +52,24 @@ fitting r stage l e =
 -- ---- recordFits
 
 pub record-fits : (e : Exchange) → methodOk (e .method) ≡ true → lengthsFit (rowOf (e .method)) (e .stage) (e .lens) ≡ true
-    → kFits (rowOf (e .method)) (e .stage) (e .k) ≡ true → recordFits e ≡ true
+    → kFits (rowOf (e .method)) (e .stage) (e .k) ≡ true → sessionFits (e .stage) (e .session) ≡ true → recordFits e ≡ true
 unfolding recordFits
-record-fits e a b c = λ i. a i && b i && c i
+record-fits e a b c d = λ i. a i && b i && c i && d i
 
 -- what a record that fits tells
 pub record Recorded (e : Exchange) : Type 0 where
   pub method-ok : methodOk (e .method) ≡ true
   pub lengths : Fitting (rowOf (e .method)) (e .stage) (e .lens)
   pub key : kFits (rowOf (e .method)) (e .stage) (e .k) ≡ true
+  pub session : sessionFits (e .stage) (e .session) ≡ true
 
 pub recorded : (e : Exchange) → recordFits e ≡ true → Recorded e
 unfolding recordFits
 recorded e f =
-    let e2 = and-true (methodOk (e .method) && lengthsFit (rowOf (e .method)) (e .stage) (e .lens)) (kFits (rowOf (e .method)) (e .stage) (e .k)) f in
+    let e3 = and-true (methodOk (e .method) && lengthsFit (rowOf (e .method)) (e .stage) (e .lens) && kFits (rowOf (e .method)) (e .stage) (e .k)) (sessionFits (e .stage) (e .session)) f in
+    let e2 = and-true (methodOk (e .method) && lengthsFit (rowOf (e .method)) (e .stage) (e .lens)) (kFits (rowOf (e .method)) (e .stage) (e .k)) (e3 .0) in
     let e1 = and-true (methodOk (e .method)) (lengthsFit (rowOf (e .method)) (e .stage) (e .lens)) (e2 .0) in
-    record { method-ok = e1 .0; lengths = fitting (rowOf (e .method)) (e .stage) (e .lens) (e1 .1); key = e2 .1 }
+    record { method-ok = e1 .0; lengths = fitting (rowOf (e .method)) (e .stage) (e .lens) (e1 .1); key = e2 .1; session = e3 .1 }
 
 -- ---- due
 
@@ -80,13 +87,14 @@ pub record Due (n : ℕ) (e : Exchange) : Type 0 where
   pub method-ok : methodOk (e .method) ≡ true
   pub lengths : Fitting (rowOf (e .method)) (e .stage) (e .lens)
   pub key : kFits (rowOf (e .method)) (e .stage) (e .k) ≡ true
+  pub session : sessionFits (e .stage) (e .session) ≡ true
 
 pub due-known : (n : ℕ) (e : Exchange) → due n e ≡ true → Due n e
 unfolding due
 due-known n e d =
     let t = and-true (eqb (nextStep (e .role) (e .stage)) n) (recordFits e) d in
     let r = recorded e (t .1) in
-    record { next = eqb-true (nextStep (e .role) (e .stage)) n (t .0); method-ok = r .method-ok; lengths = r .lengths; key = r .key }
+    record { next = eqb-true (nextStep (e .role) (e .stage)) n (t .0); method-ok = r .method-ok; lengths = r .lengths; key = r .key; session = r .session }
 
 -- nothing comes next on a failed exchange
 pub next-failed : (role n : ℕ) → nextStep role (Failed n) ≡ 0
@@ -109,7 +117,43 @@ completed-known e c =
     let t = and-true (isComplete (e .stage) && roleOk (e .role)) (recordFits e) c in
     (and-true (isComplete (e .stage)) (roleOk (e .role)) (t .0) .0, recorded e (t .1))
 
--- a complete record fits exactly as the last step found it: by the same method, lengths and K
-pub complete-as-last : (e : Exchange) → recordFits (withStage e Complete (e .lens)) ≡ recordFits (withStage e SecretDone (e .lens))
+-- ---- the session
+
+-- the numbers of a session that fits
+pub session-known : (stage : Stage) (s : Session) → sessionFits stage s ≡ true → (countFits (isComplete stage) (s .count) ≡ true) × (idFits (s .len) (s .count) ≡ true)
+unfolding sessionFits
+session-known stage s f = and-true (countFits (isComplete stage) (s .count)) (idFits (s .len) (s .count)) f
+
+-- an identifier's length is at most a digest's
+pub id-most : (len count : ℕ) → idFits len count ≡ true → len ≤ hSize
+id-most len count f = by-count (eqb count 0) f
+  where
+    by-count : (t : Bool) → cond t (eqb len 0) (known len) ≡ true → len ≤ hSize
+    by-count true e = let z = eqb-true len 0 e in omega arith
+    by-count false e = by-kind (eqb len 32) (eqb len 48) refl refl e
+      where
+        by-kind : (t u : Bool) → eqb len 32 ≡ t → eqb len 48 ≡ u → t || u || eqb len 64 ≡ true → len ≤ hSize
+        by-kind true u p q h = let z = eqb-true len 32 p in omega arith
+        by-kind false true p q h = let z = eqb-true len 48 q in omega arith
+        by-kind false false p q h = let z = eqb-true len 64 h in omega arith
+
+-- the session of an exchange whose last step is done
+pub more-fits : (m : ℕ) (h : List ℕ) (s : Session) → known (rowOf m .«digest_len») ≡ true → sessionFits SecretDone s ≡ true → sessionFits Complete (oneMore m h s) ≡ true
+unfolding sessionFits oneMore
+more-fits m h s k f =
+    let a = and-true (countFits false (s .count)) (idFits (s .len) (s .count)) f in
+    let l = ltb-true (s .count) countMost (a .0) in
+    let n = ne-eqb (s .count + 1) 0 (λ (e : s .count + 1 ≡ 0). omega arith) in
+    both (within-is 1 countMost (s .count + 1) (omega arith) (omega arith)) (rw n (by-count (eqb (s .count) 0) (a .1)))
+  where
+    by-count : (t : Bool) → cond t (eqb (s .len) 0) (known (s .len)) ≡ true → known (cond t (rowOf m .«digest_len») (s .len)) ≡ true
+    by-count true e = k
+    by-count false e = e
+
+-- a record that fits at the last step fits when it is complete
+pub last-fits : (e : Exchange) → e .stage ≡ SecretDone → known (rowOf (e .method) .«digest_len») ≡ true → recordFits e ≡ true → recordFits (withLast e) ≡ true
 unfolding recordFits lengthsFit cFits sFits kFits
-complete-as-last e = refl
+last-fits e z k f =
+    let r : recordFits (withStage e SecretDone (e .lens)) ≡ true = (λ i. recordFits (withStage e (sym z i) (e .lens))) ∙ f in
+    let d = recorded (withStage e SecretDone (e .lens)) r in
+    record-fits (withLast e) (d .method-ok) (lengths-fit (rowOf (e .method)) Complete (e .lens) (d .lengths .vc) (d .lengths .vs) (d .lengths .ic) (d .lengths .is) (d .lengths .c) (d .lengths .s)) (d .key) (more-fits (e .method) (e .h) (e .session) k (d .session))

@@ -1,45 +1,44 @@
 -- What an accepted call hands out is what the book says: hash input and its length, H, REPLY, and K. Assumes nothing.
-use Prim.Native.Nat.{ℕ, _+_, _-_, _≤_}
+use Prim.Native.Nat.{ℕ, suc, _+_, _-_, _≤_}
 use mathlib.Core.Path.{_≡_, refl, sym, ap, _∙_, subst}
 use mathlib.Core.List.{List, [], _∷_}
 use mathlib.Core.Bool.{Bool, true, false, cond, false≢true}
 use native.Mathlib.Omega.{arith}
 use lib.ListN.{length, getD, take, drop}
 use lib.Seq.{take-at}
-use lib.Dec.{eqb}
+use lib.Dec.{eqb, eqb·suc-zero}
 use borrow.Author.Tests.{eqb-true}
 use Rattle.limits.specs.Limits.{blobMost, kSize, hSize, roomLeast, server}
-use Rattle.limits.proofs.BoolLaws.{both}
 use Rattle.limits.proofs.RangeLaws.{within-least}
 use Rattle.buffers.specs.Bytes.{zeros, onto}
+use Rattle.sha_words.specs.Constants.{known}
 use Rattle.sha_words.specs.Message.{sha2, sized}
 use Rattle.sha_words.proofs.DigestLaws.{length-sha2}
 use Rattle.wire.proofs.CauseLaws.{unless-none}
 use Rattle.methods.specs.Rows.{rowOf}
 use Rattle.methods.proofs.FormLaws.{s-least}
 use Rattle.messages.specs.Messages.{replyBytes, fieldOf}
-use Rattle.exchange.specs.Causes.{methodOk, roleOk, blobOk, replyCause, signCause, kOf, hOf}
-use Rattle.exchange.specs.Numbers.{Kind, accepted, refused, fault, kind, byKind}
-use Rattle.exchange.specs.Record.{kLength, cFits, sFits, kFits, isComplete, completed}
+use Rattle.exchange.specs.Causes.{methodOk, blobOk, replyCause, signCause, kOf, hOf}
+use Rattle.exchange.specs.Record.{kLength, idFits, isComplete, completed}
 use Rattle.exchange.specs.Steps.{Call, secret, sign, verdict, stepNo, fedCause, number, fieldsEnd, filled, inputLength, taken, kRecord, replyOf, countOf, handedH, roomAfter}
-use Rattle.exchange.specs.Book.{Fields, Book, brings, stepsOf, firstCause, fieldsAfter, moved, dropped, noted, hashInput, hOnce, hTold, lastBook}
-use Rattle.exchange.specs.ExchangeTold.{lengthsIn, exchangeOf}
+use Rattle.exchange.specs.Book.{Fields, Past, Book, brings, stepsOf, firstCause, fieldsAfter, moved, noted, finished, hashInput, leftBy, hOnce, hTold, byFirst, sessionOf}
+use Rattle.exchange.specs.ExchangeTold.{exchangeOf}
 use Rattle.exchange.specs.declared.Classical.{Classical}
 use Rattle.exchange.specs.declared.Kem.{Kem}
 use Rattle.exchange.specs.declared.Exchange.{Exchange}
 use Rattle.exchange.proofs.KindLaws.{kind-accepted}
 use Rattle.exchange.proofs.CauseFacts.{Base, FormedS, Blob, Key, method-row, method-least, method-most}
-use Rattle.exchange.proofs.DueLaws.{lengths-fit, record-fits, completed-fits}
-use Rattle.exchange.proofs.HashLaws.{fieldsOf, hash-length, ks-stands, s-stands}
+use Rattle.exchange.proofs.DueLaws.{recorded, completed-fits, session-known}
+use Rattle.exchange.proofs.HashLaws.{hash-length, ks-stands, s-stands}
 use Rattle.exchange.proofs.StepLaws.{step-accepted, handed-accepted}
 use Rattle.exchange.proofs.ReadBack.{reply-back}
-use Rattle.exchange.proofs.Simulation.{book, Reachable, client0, client1, client2, client3, client4, server0, server1, server2, server3, accepts, Sim, live, dead, number-live, no-cause, dead-number}
+use Rattle.exchange.proofs.Simulation.{Reachable, client0, client1, client2, client3, client4, server0, server1, server2, server3, fits-of-book, role-of-book, accepts, Sim, live, dead, number-live, no-cause, dead-number}
 
 -- a call that is accepted finds the exchange and the room as the book tells them, and has no cause against it there
 record Live (room : List ℕ) (b : Book) (e : Exchange) (room′ : List ℕ) (q : Call) : Type 0 where
   sound : Reachable b
   exchange : e ≡ exchangeOf b
-  room-is : room′ ≡ onto room (hashInput (b .fields))
+  room-is : room′ ≡ onto (leftBy (b .past) room) (hashInput (b .fields))
   cause : firstCause (length room) b q ≡ 0
 
 live-of : (room : List ℕ) (b : Book) (e : Exchange) (room′ : List ℕ) (q : Call) → roomLeast ≤ length room → Sim room b e room′ → number e room′ q ≡ 0 → Live room b e room′ q
@@ -49,7 +48,7 @@ live-of room b e room′ q h (live s x y) z = record {
   room-is = y;
   cause = sym (number-live room b q h s) ∙ (λ i. number (sym x i) (sym y i) q) ∙ z;
 }
-live-of room b e room′ q h (dead n x f y w h′ u) z = let v = dead-number e room′ n q y in let w : ⊥ = omega arith in absurd w
+live-of room b e room′ q h (dead n x f y w v u t r) z = let d = dead-number e room′ n q y in let g : ⊥ = omega arith in absurd g
 
 noted-moved : (l : ℕ) (b : Book) (q : Call) → firstCause l b q ≡ 0 → noted l b q ≡ moved b q
 unfolding noted
@@ -74,17 +73,17 @@ module _ (room : List ℕ) (b : Book) (e : Exchange) (room′ : List ℕ) (h : r
       let q : Call = secret cl x kem kPq ks s in
       let l = live-of room b e room′ q h sim z in
       let u = no-cause (length room) b q (l .cause) in
-      let w = accepts room (l .sound) q (u .0) (u .1) in
+      let w = accepts (leftBy (b .past) room) (l .sound) q (u .0) (u .1) in
       let f : Fields = fieldsAfter (b .role) (b .method) (b .fields) q in
       let m : noted (length room) b q .fields ≡ f = ap (λ (y : Book). y .fields) (noted-moved (length room) b q (l .cause)) in
       let n : countOf e room′ q ≡ length (hashInput f) =
       (λ i. inputLength (l .exchange i) x kPq ks s)
       ∙ (λ i. fieldsEnd (w .exchange i .lens) + length (sym (secret-k (b .role) (b .method) (b .fields) cl x kem kPq ks s) i))
       ∙ sym (hash-length (f .vc) (f .vs) (f .ic) (f .is) (f .ks) (f .c) (f .s) (f .k)) in
-      let r : roomAfter e room′ q ≡ onto room (hashInput f) =
+      let r : roomAfter e room′ q ≡ onto (leftBy (b .past) room) (hashInput f) =
       sym (step-accepted e room′ q z .1) ∙ (λ i. filled (l .exchange i) (l .room-is i) q) ∙ w .room-is in (
         n ∙ ap (λ (y : Fields). length (hashInput y)) (sym m),
-        (λ i. take (n i) (r i)) ∙ take-at (hashInput f) (drop (length (hashInput f)) room) _ refl ∙ ap hashInput (sym m),
+        (λ i. take (n i) (r i)) ∙ take-at (hashInput f) (drop (length (hashInput f)) (leftBy (b .past) room)) _ refl ∙ ap hashInput (sym m),
       )
 
   -- and H is the hash of the hash input, by the book's method
@@ -100,69 +99,69 @@ module _ (room : List ℕ) (b : Book) (e : Exchange) (room′ : List ℕ) (h : r
       ∙ (λ i. hOf (l .exchange i .method) (take (countOf e room′ q) (r i)))
       ∙ ap (hOf (b .method)) (secret-handed cl x kem kPq ks s z .1)
 
--- the book keeps its method
-noted-method : (l : ℕ) (b : Book) (q : Call) → noted l b q .method ≡ b .method
-unfolding noted
-noted-method l b q = by-kind (kind (firstCause l b q))
-  where
-    by-kind : (k : Kind) → byKind k (moved b q) b (dropped b) .method ≡ b .method
-    by-kind accepted = refl
-    by-kind refused = refl
-    by-kind fault = refl
-
-pub book-method : (l : ℕ) (b : Book) (qs : List Call) → lastBook l b qs .method ≡ b .method
-book-method l b [] = refl
-book-method l b (q ∷ qs) = book-method l (noted l b q) qs ∙ noted-method l b q
-
 -- ---- a complete exchange
 
--- it fits, and holds the book's K and the hash of the book's hash input
+-- it fits, holds the book's K and the hash of the book's hash input, and the identifier of its session is the hash of the first completed exchange's
 pub record Ready (b : Book) (e : Exchange) : Type 0 where
   pub fits : completed e ≡ true
   pub method-is : e .method ≡ b .method
   pub method-ok : methodOk (b .method) ≡ true
   pub k-in : take (kLength (e .k)) (e .k) ≡ b .fields .k
   pub h-in : take (rowOf (b .method) .«digest_len») (e .h) ≡ sha2 (rowOf (b .method) .«digest_len») (hashInput (b .fields))
+  pub id-known : idFits (e .session .len) (e .session .count) ≡ true
+  pub id-in : take (e .session .len) (e .session .id) ≡ byFirst [] (λ (x : Past). sha2 (rowOf (x .method) .«digest_len») (hashInput (x .fields))) (finished b)
 
 k-front : (k : List ℕ) → kLength (kRecord k) ≡ length k → take (kLength (kRecord k)) (kRecord k) ≡ k
 unfolding kRecord onto
 k-front k l = take-at k (drop (length k) (zeros kSize)) _ (sym l)
 
-h-front : (m : ℕ) (k input : List ℕ) → methodOk m ≡ true → kLength (kRecord k) ≡ length k → take (rowOf m .«digest_len») (hOnce m k input) ≡ sha2 (rowOf m .«digest_len») input
+-- as many bytes of H as the digest has, where the method's digest is one
+digest-front : (m : ℕ) (input : List ℕ) → known (rowOf m .«digest_len») ≡ true → take (rowOf m .«digest_len») (hOf m input) ≡ sha2 (rowOf m .«digest_len») input
 unfolding sized
-h-front m [] input ok l = let w : ⊥ = omega (arith, l) in absurd w
-h-front m (y ∷ k) input ok l = take-at (sha2 (rowOf m .«digest_len») input) (zeros (hSize - length (sha2 (rowOf m .«digest_len») input))) _ (length-sha2 (rowOf m .«digest_len») input (method-row m ok .digest-kind))
+digest-front m input d = take-at (sha2 (rowOf m .«digest_len») input) (zeros (hSize - length (sha2 (rowOf m .«digest_len») input))) _ (length-sha2 (rowOf m .«digest_len») input d)
 
-ready-is : (b : Book) → isComplete (exchangeOf b .stage) ≡ true → roleOk (b .role) ≡ true → Base (b .method) (b .fields .vc) (b .fields .vs) (b .fields .ic) (b .fields .is)
-    → cFits (rowOf (b .method)) (exchangeOf b .stage) (lengthsIn (b .fields)) ≡ true → sFits (rowOf (b .method)) (exchangeOf b .stage) (lengthsIn (b .fields)) ≡ true
-    → kFits (rowOf (b .method)) (exchangeOf b .stage) (kRecord (b .fields .k)) ≡ true → Key (b .method) (b .fields .k) → Ready b (exchangeOf b)
-unfolding hTold
-ready-is b z r a c s k y = record {
-  fits = completed-fits (exchangeOf b) z r
-      (record-fits (exchangeOf b) (a .method-ok) (lengths-fit (rowOf (b .method)) (exchangeOf b .stage) (lengthsIn (b .fields)) (a .vc-ok) (a .vs-ok) (a .ic-ok) (a .is-ok) c s) k);
-  method-is = refl;
-  method-ok = a .method-ok;
-  k-in = k-front (b .fields .k) (y .len);
-  h-in = h-front (b .method) (b .fields .k) (hashInput (b .fields)) (a .method-ok) (y .len);
-}
+h-front : (m : ℕ) (k input : List ℕ) → methodOk m ≡ true → kLength (kRecord k) ≡ length k → take (rowOf m .«digest_len») (hOnce m k input) ≡ sha2 (rowOf m .«digest_len») input
+h-front m [] input ok l = let w : ⊥ = omega (arith, l) in absurd w
+h-front m (y ∷ k) input ok l = digest-front m input (method-row m ok .digest-kind)
+
+-- and of the identifier, where its length fits
+id-front : (past : List Past) → idFits (sessionOf past .len) (length past) ≡ true
+    → take (sessionOf past .len) (sessionOf past .id) ≡ byFirst [] (λ (x : Past). sha2 (rowOf (x .method) .«digest_len») (hashInput (x .fields))) past
+id-front [] f = refl
+id-front (x ∷ []) f = digest-front (x .method) (hashInput (x .fields)) f
+id-front (x ∷ y ∷ past) f = id-front (y ∷ past) (rw (eqb·suc-zero (length past)) (rw (eqb·suc-zero (suc (length past))) at f))
+
+key-of : {b : Book} → Reachable b → isComplete (exchangeOf b .stage) ≡ true → Key (b .method) (b .fields .k)
+key-of (client0 o a) z = absurd (false≢true z)
+key-of (client1 o a c) z = absurd (false≢true z)
+key-of (client2 o a c k s) z = absurd (false≢true z)
+key-of (client3 o a c k s y) z = absurd (false≢true z)
+key-of (client4 o a c k s y) z = y
+key-of (server0 o a) z = absurd (false≢true z)
+key-of (server1 o a c) z = absurd (false≢true z)
+key-of (server2 o a c k s y) z = absurd (false≢true z)
+key-of (server3 o a c k s y) z = y
 
 ready-of : {b : Book} → Reachable b → isComplete (exchangeOf b .stage) ≡ true → Ready b (exchangeOf b)
-unfolding cFits sFits kFits roleOk
-ready-of (client0 a) z = absurd (false≢true z)
-ready-of (client1 a c) z = absurd (false≢true z)
-ready-of (client2 a c k s) z = absurd (false≢true z)
-ready-of (client3 a c k s y) z = absurd (false≢true z)
-ready-of (client4 {m} {vc} {vs} {ic} {is} {ks = fk} {c = fc} {s = fs} {k = ky} a c k s y) z =
-    ready-is (book 1 m 4 (fieldsOf vc vs ic is fk fc fs ky)) z refl a (c .len) (both (k .ok) (s .len)) (y .ok) y
-ready-of (server0 a) z = absurd (false≢true z)
-ready-of (server1 a c) z = absurd (false≢true z)
-ready-of (server2 a c k s y) z = absurd (false≢true z)
-ready-of (server3 {m} {vc} {vs} {ic} {is} {ks = fk} {c = fc} {s = fs} {k = ky} a c k s y) z =
-    ready-is (book 2 m 3 (fieldsOf vc vs ic is fk fc fs ky)) z refl a (c .len) (both (k .ok) (s .len)) (y .ok) y
+unfolding hTold
+ready-of {b} s z =
+    let f = fits-of-book s in
+    let r = recorded (exchangeOf b) f in
+    let y = key-of s z in
+    let n = session-known (exchangeOf b .stage) (sessionOf (finished b)) (r .session) .1 in
+    record {
+      fits = completed-fits (exchangeOf b) z (role-of-book s) f;
+      method-is = refl;
+      method-ok = r .method-ok;
+      k-in = k-front (b .fields .k) (y .len);
+      h-in = h-front (b .method) (b .fields .k) (hashInput (b .fields)) (r .method-ok) (y .len);
+      id-known = n;
+      id-in = id-front (finished b) n;
+    }
 
 pub complete-ready : (room : List ℕ) (b : Book) (e : Exchange) (room′ : List ℕ) → Sim room b e room′ → isComplete (e .stage) ≡ true → Ready b e
 complete-ready room b e room′ (live s x y) z = subst (Ready b) (sym x) (ready-of s (ap (λ (v : Exchange). isComplete (v .stage)) (sym x) ∙ z))
-complete-ready room b e room′ (dead n x f y w v u) z = absurd (false≢true (ap isComplete (sym y) ∙ z))
+complete-ready room b e room′ (dead n x f y w v u t r) z = absurd (false≢true (ap isComplete (sym y) ∙ z))
 
 -- ---- signature and verdict: the book has every field, K too
 
@@ -173,15 +172,15 @@ record Full (b : Book) : Type 0 where
   key : Key (b .method) (b .fields .k)
 
 full : {b : Book} → Reachable b → (n : ℕ) → 5 ≤ n → eqb (getD (stepsOf (b .role)) (b .done) 0) n ≡ true → Full b
-full (client0 a) n h e = let v = eqb-true 1 n e in let w : ⊥ = omega arith in absurd w
-full (client1 a c) n h e = let v = eqb-true 3 n e in let w : ⊥ = omega arith in absurd w
-full (client2 a c k s) n h e = let v = eqb-true 4 n e in let w : ⊥ = omega arith in absurd w
-full (client3 a c k s y) n h e = record { base = a; host-key = k; value = s; key = y }
-full (client4 a c k s y) n h e = let v = eqb-true 0 n e in let w : ⊥ = omega arith in absurd w
-full (server0 a) n h e = let v = eqb-true 2 n e in let w : ⊥ = omega arith in absurd w
-full (server1 a c) n h e = let v = eqb-true 4 n e in let w : ⊥ = omega arith in absurd w
-full (server2 a c k s y) n h e = record { base = a; host-key = k; value = s; key = y }
-full (server3 a c k s y) n h e = let v = eqb-true 0 n e in let w : ⊥ = omega arith in absurd w
+full (client0 o a) n h e = let v = eqb-true 1 n e in let w : ⊥ = omega arith in absurd w
+full (client1 o a c) n h e = let v = eqb-true 3 n e in let w : ⊥ = omega arith in absurd w
+full (client2 o a c k s) n h e = let v = eqb-true 4 n e in let w : ⊥ = omega arith in absurd w
+full (client3 o a c k s y) n h e = record { base = a; host-key = k; value = s; key = y }
+full (client4 o a c k s y) n h e = let v = eqb-true 0 n e in let w : ⊥ = omega arith in absurd w
+full (server0 o a) n h e = let v = eqb-true 2 n e in let w : ⊥ = omega arith in absurd w
+full (server1 o a c) n h e = let v = eqb-true 4 n e in let w : ⊥ = omega arith in absurd w
+full (server2 o a c k s y) n h e = record { base = a; host-key = k; value = s; key = y }
+full (server3 o a c k s y) n h e = let v = eqb-true 0 n e in let w : ⊥ = omega arith in absurd w
 
 module _ (room : List ℕ) (b : Book) (e : Exchange) (room′ : List ℕ) (h : roomLeast ≤ length room) (sim : Sim room b e room′) where
   -- K as it is written, and its length
@@ -211,7 +210,7 @@ module _ (room : List ℕ) (b : Book) (e : Exchange) (room′ : List ℕ) (h : r
       let ks = within-least 1 blobMost (length (f .ks)) (w .host-key .ok) in
       let s = s-least (b .method) (length (f .s)) (method-least (b .method) mo) (method-most (b .method) mo) (w .value .len) in (
         (λ i. replyOf (l .exchange i) (l .room-is i) g)
-            ∙ (λ i. replyBytes (ks-stands (f .vc) (f .vs) (f .ic) (f .is) room (f .ks) (f .c) (f .s) (f .k) ks i) (s-stands (f .vc) (f .vs) (f .ic) (f .is) room (f .ks) (f .c) (f .s) (f .k) s i) g),
+            ∙ (λ i. replyBytes (ks-stands (f .vc) (f .vs) (f .ic) (f .is) (leftBy (b .past) room) (f .ks) (f .c) (f .s) (f .k) ks i) (s-stands (f .vc) (f .vs) (f .ic) (f .is) (leftBy (b .past) room) (f .ks) (f .c) (f .s) (f .k) s i) g),
         key-handed q (omega arith) z,
         reply-back (b .method) mo (f .ks) (f .s) g (w .host-key .ok) (w .value .ok) (unless-none (blobOk (length g)) 4 _ (omega arith) (u .1) .0),
       )

@@ -9,6 +9,7 @@ use Rattle.wire.specs.Strings.{bytes32, string}
 use Rattle.transcript.specs.Fields.{field, fieldLength}
 use Rattle.transcript.proofs.RoomLaws.{length-field, field-some, over-onto, inserted}
 use Rattle.exchange.specs.Steps.{headEnd, fieldsEnd, standingC, standingKS, standingS}
+use Rattle.exchange.specs.Again.{versionsEnd}
 use Rattle.exchange.specs.Book.{Fields, hashInput}
 use Rattle.exchange.specs.ExchangeTold.{lengthsIn}
 use Rattle.exchange.specs.declared.Lengths.{Lengths}
@@ -139,3 +140,39 @@ module _ (vc vs ic is room ks c s k : List ℕ) where
       ∙ ap (λ (x : ℕ). x + length (field c)) (length-append (headIn vc vs ic is) (field ks))
       ∙ (λ i. sym n i + length-field ks i + length-field c i)))
       refl
+
+-- ---- to begin again
+
+-- y laid behind x, where a room begins with x
+over-front : (room x y : List ℕ) (n : ℕ) → n ≡ length x → take n room ≡ x → over room n y ≡ onto room (x ++ y)
+unfolding over onto
+over-front room x y n e t =
+    let d : n + length y ≡ length (x ++ y) = ap (λ (k : ℕ). k + length y) e ∙ sym (length-append x y) in
+    (λ i. t i ++ y ++ drop (d i) room)
+
+-- a room begins with x where what was laid over its beginning does
+front-onto : (room x y : List ℕ) → take (length x) (onto room (x ++ y)) ≡ x
+unfolding onto
+front-onto room x y = ap (take (length x)) (append-assoc x y (drop (length (x ++ y)) room)) ∙ take-at x (y ++ drop (length (x ++ y)) room) (length x) refl
+
+module _ (vc vs ic is : List ℕ) where
+  -- both V, and the rest
+  parted : (ks c s k : List ℕ) → hashInput (fieldsOf vc vs ic is ks c s k) ≡ (field vc ++ field vs) ++ (field ic ++ field is ++ field ks ++ field c ++ field s ++ k)
+  unfolding hashInput
+  parted ks c s k = simp append-assoc
+
+  pub hash-start : field vc ++ field vs ++ field ic ++ field is ≡ hashInput (fieldsOf vc vs ic is [] [] [] [])
+  unfolding hashInput field
+  hash-start = simp append-nil
+
+-- both V stay as they stand, and the new I_C and I_S follow them
+pub room-again : (room vc vs ic is ks c s k ic′ is′ : List ℕ)
+    → over (onto room (hashInput (fieldsOf vc vs ic is ks c s k))) (versionsEnd (lengthsIn (fieldsOf vc vs ic is ks c s k))) (field ic′ ++ field is′)
+    ≡ onto (onto room (hashInput (fieldsOf vc vs ic is ks c s k))) (hashInput (fieldsOf vc vs ic′ is′ [] [] [] []))
+room-again room vc vs ic is ks c s k ic′ is′ =
+    let old : List ℕ = onto room (hashInput (fieldsOf vc vs ic is ks c s k)) in
+    let n : fieldLength (length vc) + fieldLength (length vs) ≡ length (field vc ++ field vs) = sym (length-append (field vc) (field vs) ∙ (λ i. length-field vc i + length-field vs i)) in
+    let t : take (fieldLength (length vc) + fieldLength (length vs)) old ≡ field vc ++ field vs =
+    (λ i. take (n i) (onto room (parted vc vs ic is ks c s k i))) ∙ front-onto room (field vc ++ field vs) (field ic ++ field is ++ field ks ++ field c ++ field s ++ k) in
+    over-front old (field vc ++ field vs) (field ic′ ++ field is′) (fieldLength (length vc) + fieldLength (length vs)) n t
+    ∙ ap (onto old) (sym (append-assoc (field vc ++ field vs) (field ic′) (field is′)) ∙ hash-start vc vs ic′ is′)

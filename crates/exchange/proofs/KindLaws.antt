@@ -3,7 +3,7 @@ use Prim.Native.Nat.{ℕ, zero, suc, _≤_, _<_}
 use mathlib.Core.Path.{_≡_, refl}
 use mathlib.Core.Bool.{Bool, true, false, cond}
 use native.Mathlib.Omega.{arith}
-use lib.Dec.{eqb·suc-zero}
+use lib.Dec.{eqb, eqb·suc-zero}
 use borrow.Author.Tests.{eq-eqb, ne-eqb}
 use Rattle.limits.proofs.RangeLaws.{within-is, within-low, within-high, within-least}
 use Rattle.exchange.specs.Numbers.{isFault, accepted, refused, fault, kind, byKind}
@@ -27,6 +27,15 @@ kind-is-accepted (suc n) h = absurd (go (isFault (suc n)) (rw (eqb·suc-zero n) 
 pub kind-fault : (n : ℕ) → isFault n ≡ true → kind n ≡ fault
 unfolding kind
 kind-fault n h = let l = within-least 10 18 n h in rw (ne-eqb n 0 (λ e. omega arith), h)
+
+pub kind-is-fault : (n : ℕ) → kind n ≡ fault → isFault n ≡ true
+unfolding kind
+kind-is-fault n h = go (eqb n 0) (isFault n) h
+  where
+    go : (t u : Bool) → cond t accepted (cond u fault refused) ≡ fault → u ≡ true
+    go true u e = let z : _≡_ {A = ℕ} 0 1 = cc in let w : ⊥ = omega arith in absurd w
+    go false true e = refl
+    go false false e = let z : _≡_ {A = ℕ} 0 1 = cc in let w : ⊥ = omega arith in absurd w
 
 -- any other
 pub kind-refused : (n : ℕ) → (n ≡ 0 → ⊥) → isFault n ≡ false → kind n ≡ refused

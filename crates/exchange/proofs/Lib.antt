@@ -10,3 +10,4 @@ pub mod HandedLaws
 pub mod Sample
 pub mod Completes
 pub mod TheExchange
+pub mod SessionLaws

@@ -1,4 +1,5 @@
--- Sample calls: for each role and method a list that completes an exchange, so that demand 3 is not about nothing. Assumes nothing.
+-- Sample calls: for each role and method a list that completes an exchange, and one that completes two, so that demand 3 is not about nothing.
+-- Assumes nothing.
 use Prim.Native.Nat.{ℕ, _-_}
 use mathlib.Core.List.{List, [], _∷_, _++_}
 use mathlib.Core.Bool.{true, cond}
@@ -13,6 +14,7 @@ use Rattle.methods.specs.declared.KForm.the-variants.{Mpint, Digest}
 use Rattle.methods.specs.declared.Shape.{Shape}
 use Rattle.methods.specs.declared.Method.{Method}
 use Rattle.exchange.specs.Steps.{Call, ownC, init, reply, secret, sign, verdict}
+use Rattle.exchange.specs.Again.{Turn, step, again}
 use Rattle.exchange.specs.declared.Classical.the-variants.{Given}
 use Rattle.exchange.specs.declared.Kem.{Kem}
 use Rattle.exchange.specs.declared.Kem.the-variants.{Absent, Done}
@@ -61,3 +63,15 @@ serverCalls r =
 
 unfoldable pub sampleCalls : ℕ → ℕ → List Call
 sampleCalls role m = cond (eqb role client) (clientCalls (rowOf m)) (serverCalls (rowOf m))
+
+-- the same as calls of a list
+abbrev pub turns : List Call → List Turn
+turns [] = []
+turns (q ∷ qs) = step q ∷ turns qs
+
+abbrev pub sampleTurns : ℕ → ℕ → List Turn
+sampleTurns role m = turns (sampleCalls role m)
+
+-- one exchange, and then another by a second method
+abbrev pub twiceTurns : ℕ → ℕ → ℕ → List Turn
+twiceTurns role m m′ = sampleTurns role m ++ again m′ payload payload ∷ sampleTurns role m′

@@ -42,9 +42,9 @@ module _ (e : Exchange) (room : List ℕ) (q : Call) where
       let z : number e room q ≡ 0 → ⊥ = λ y. h (m ∙ y) in
       let c = kind-same (number e room q) (countOf e room q) 0 z in
       let d = kind-same (number e room q) (secondOf e q) 0 z in
-      let x : byKind (kind n) e e (ended n (e .role) (e .method)) ≡ byKind (kind (number e room q)) (taken e room q) e (ended (number e room q) (e .role) (e .method)) =
-      (λ i. byKind (kind (m i)) e e (ended (m i) (e .role) (e .method)))
-      ∙ kind-other (number e room q) e (taken e room q) e (ended (number e room q) (e .role) (e .method)) z in (
+      let x : byKind (kind n) e e (ended n (e .role) (e .method) (e .session)) ≡ byKind (kind (number e room q)) (taken e room q) e (ended (number e room q) (e .role) (e .method) (e .session)) =
+      (λ i. byKind (kind (m i)) e e (ended (m i) (e .role) (e .method) (e .session)))
+      ∙ kind-other (number e room q) e (taken e room q) e (ended (number e room q) (e .role) (e .method) (e .session)) z in (
         (λ i. record { number = m i; count = sym c i; second = sym d i; exchange = x i }),
         (λ i. byKind (kind (m i)) room room (zeros (length room))) ∙ kind-other (number e room q) room (filled e room q) room (zeros (length room)) z,
       )

@@ -5,7 +5,7 @@ use mathlib.Core.List.{List, [], _∷_, _++_}
 use mathlib.Core.Bool.{Bool, true, false, cond, not, _&&_, _||_}
 use lib.ListN.{length, getD}
 use lib.Dec.{ltb, eqb}
-use Rattle.limits.specs.Limits.{versionMost, kexinitMost, blobMost, kPqSize, hSize, kSize, roomLeast, initLeast, replyLeast, methodLast, client, server}
+use Rattle.limits.specs.Limits.{versionMost, kexinitMost, blobMost, kPqSize, hSize, kSize, countMost, roomLeast, initLeast, replyLeast, methodLast, client, server}
 use Rattle.limits.specs.Range.{within}
 use Rattle.wire.specs.Causes.{causeIf, causeUnless, orElse}
 use Rattle.sha_words.specs.Message.{sha2, sized}
@@ -52,6 +52,15 @@ startCause role m vc vs ic is room =
     causeUnless (methodOk m && roleOk role) 2
     (causeIf (ltb room roomLeast) 3
     (causeUnless (versionOk vc && versionOk vs && kexinitOk ic && kexinitOk is) 4 0))
+
+-- ---- to begin again: 2, 3 and 4 as at start, with both V taken unjudged; then that no more exchanges can be counted
+
+unfoldable pub againCause : ℕ → List ℕ → List ℕ → ℕ → ℕ → ℕ
+againCause m ic is room count =
+    causeUnless (methodOk m) 2
+    (causeIf (ltb room roomLeast) 3
+    (causeUnless (kexinitOk ic && kexinitOk is) 4
+    (causeIf (eqb count countMost) 23 0)))
 
 -- ---- own C
 

@@ -8,7 +8,7 @@ use Rattle.limits.specs.Limits.{client}
 use Rattle.exchange.specs.Numbers.{isFault}
 use Rattle.exchange.specs.Record.{ended}
 use Rattle.exchange.specs.Steps.{kRecord}
-use Rattle.exchange.specs.Book.{Fields, Book, hTold}
+use Rattle.exchange.specs.Book.{Fields, Book, finished, hTold, sessionOf}
 use Rattle.exchange.specs.declared.Stage.{Stage}
 use Rattle.exchange.specs.declared.Stage.the-variants.{Started, CSent, InitRead, ReplyRead, SecretDone, Complete}
 use Rattle.exchange.specs.declared.Lengths.{Lengths}
@@ -22,7 +22,7 @@ stagesOf role = cond (eqb role client) (Started ∷ CSent ∷ ReplyRead ∷ Secr
 abbrev pub lengthsIn : Fields → Lengths
 lengthsIn f = record { vc = length (f .vc); vs = length (f .vs); ic = length (f .ic); is = length (f .is); ks = length (f .ks); c = length (f .c); s = length (f .s) }
 
--- without a fault: stage, lengths, K and H by the steps done and the fields
+-- without a fault: stage, lengths, K and H by the steps done and the fields, and the session by the exchanges that were completed
 abbrev pub exchangeOf : Book → Exchange
 exchangeOf b = record {
   stage = getD (stagesOf (b .role)) (b .done) Complete;
@@ -31,6 +31,7 @@ exchangeOf b = record {
   lens = lengthsIn (b .fields);
   k = kRecord (b .fields .k);
   h = hTold b;
+  session = sessionOf (finished b);
 }
 
 -- the first peer's fault among the numbers that the calls answered; 0 with none
@@ -38,6 +39,6 @@ abbrev pub firstFault : List ℕ → ℕ
 firstFault [] = 0
 firstFault (n ∷ ns) = cond (isFault n) n (firstFault ns)
 
--- after a fault: role, method and that number, and nothing else
+-- after a fault: role, method, session and that number, and nothing else
 unfoldable pub exchangeTold : Book → List ℕ → Exchange
-exchangeTold b numbers = cond (b .faulted) (ended (firstFault numbers) (b .role) (b .method)) (exchangeOf b)
+exchangeTold b numbers = cond (b .faulted) (ended (firstFault numbers) (b .role) (b .method) (sessionOf (finished b))) (exchangeOf b)

@@ -2,11 +2,12 @@
 use Prim.Native.Nat.{ℕ, _+_}
 use mathlib.Core.List.{List}
 use mathlib.Core.Bool.{Bool, true, false, cond, _&&_}
-use lib.Dec.{leb, eqb}
-use Rattle.limits.specs.Limits.{versionMost, kexinitMost, kSize, hSize, client, server}
+use lib.Dec.{leb, ltb, eqb}
+use Rattle.limits.specs.Limits.{versionMost, kexinitMost, kSize, hSize, countMost, client, server}
 use Rattle.limits.specs.Range.{within}
 use Rattle.buffers.specs.Bytes.{zeros}
 use Rattle.wire.specs.Strings.{number32}
+use Rattle.sha_words.specs.Constants.{known}
 use Rattle.methods.specs.Rows.{rowOf}
 use Rattle.methods.specs.Form.{lengthFits}
 use Rattle.methods.specs.declared.KForm.{KForm}
@@ -16,15 +17,20 @@ use Rattle.exchange.specs.Causes.{methodOk, roleOk, blobOk}
 use Rattle.exchange.specs.declared.Stage.{Stage}
 use Rattle.exchange.specs.declared.Stage.the-variants.{Started, CSent, InitRead, ReplyRead, SecretDone, Complete, Failed}
 use Rattle.exchange.specs.declared.Lengths.{Lengths}
+use Rattle.exchange.specs.declared.Session.{Session}
 use Rattle.exchange.specs.declared.Exchange.{Exchange}
 
 -- no field is recorded
 abbrev pub noLengths : Lengths
 noLengths = record { vc = 0; vs = 0; ic = 0; is = 0; ks = 0; c = 0; s = 0 }
 
--- an exchange that a number ended: no lengths, no K, no H, its role and method kept; a refused start's role and method are 0
-unfoldable pub ended : ℕ → ℕ → ℕ → Exchange
-ended n role m = record { stage = Failed n; role = role; method = m; lens = noLengths; k = zeros kSize; h = zeros hSize }
+-- no exchange was completed
+abbrev pub noSession : Session
+noSession = record { id = zeros hSize; len = 0; count = 0 }
+
+-- an exchange that a number ended: no lengths, no K, no H; its role, method and session kept; a refused start's are none
+unfoldable pub ended : ℕ → ℕ → ℕ → Session → Exchange
+ended n role m session = record { stage = Failed n; role = role; method = m; lens = noLengths; k = zeros kSize; h = zeros hSize; session = session }
 
 -- the step that comes next in a role: 1 own C, 2 INIT, 3 REPLY, 4 secret, 5 signature, 6 verdict, 0 none
 abbrev pub clientNext : Stage → ℕ
@@ -99,14 +105,6 @@ kBodyFits Digest r n = eqb n (r .«digest_len»)
 unfoldable pub kFits : Method → Stage → List ℕ → Bool
 kFits r stage k = cond (hasK stage) (kBodyFits (r .«k_form») r (number32 k)) true
 
--- what is recorded fits the stage: the method is one, and lengths and K's length are as it has them. H, and K behind its length, are not judged
-unfoldable pub recordFits : Exchange → Bool
-recordFits e = methodOk (e .method) && lengthsFit (rowOf (e .method)) (e .stage) (e .lens) && kFits (rowOf (e .method)) (e .stage) (e .k)
-
--- a step is due: it is the role's next, and the record fits
-unfoldable pub due : ℕ → Exchange → Bool
-due n e = eqb (nextStep (e .role) (e .stage)) n && recordFits e
-
 -- a record says that it is complete
 abbrev pub isComplete : Stage → Bool
 isComplete Started = false
@@ -117,6 +115,30 @@ isComplete SecretDone = false
 isComplete Complete = true
 isComplete (Failed n) = false
 
--- it says so, its role is one, and the record fits
+-- the count fits: at most 4,294,967,295, not this one while not complete, and not 0 while complete
+abbrev pub countFits : Bool → ℕ → Bool
+countFits complete n = cond complete (within 1 countMost n) (ltb n countMost)
+
+-- the identifier's length fits: 0 exactly where no exchange was completed, else a digest's. Its bytes are not judged
+abbrev pub idFits : ℕ → ℕ → Bool
+idFits len count = cond (eqb count 0) (eqb len 0) (known len)
+
+unfoldable pub sessionFits : Stage → Session → Bool
+sessionFits stage s = countFits (isComplete stage) (s .count) && idFits (s .len) (s .count)
+
+-- what is recorded fits the stage: the method is one, lengths and K's length are as it has them, and the session's numbers fit. H, and K behind its
+-- length, are not judged
+unfoldable pub recordFits : Exchange → Bool
+recordFits e =
+    methodOk (e .method)
+    && lengthsFit (rowOf (e .method)) (e .stage) (e .lens)
+    && kFits (rowOf (e .method)) (e .stage) (e .k)
+    && sessionFits (e .stage) (e .session)
+
+-- a step is due: it is the role's next, and the record fits
+unfoldable pub due : ℕ → Exchange → Bool
+due n e = eqb (nextStep (e .role) (e .stage)) n && recordFits e
+
+-- an exchange is complete: its record says so, its role is one, and the record fits
 unfoldable pub completed : Exchange → Bool
 completed e = isComplete (e .stage) && roleOk (e .role) && recordFits e

@@ -9,16 +9,18 @@ use Rattle.buffers.specs.Bytes.{zeros, onto, over}
 use Rattle.wire.specs.Causes.{causeIf, causeUnless}
 use Rattle.wire.specs.Parts.{nothing}
 use Rattle.wire.specs.declared.Part.{Part}
+use Rattle.methods.specs.Rows.{rowOf}
 use Rattle.messages.specs.Messages.{initBytes, replyBytes, fieldPart, fieldOf}
 use Rattle.transcript.specs.Fields.{field, fieldLength, fieldSize, sizeSum}
 use Rattle.exchange.specs.Causes.{startCause, ownCCause, initCause, replyCause, secretCause, signCause, verdictCause, kOf, hOf}
 use Rattle.exchange.specs.Numbers.{kind, byKind}
-use Rattle.exchange.specs.Record.{ended, kLength, due}
+use Rattle.exchange.specs.Record.{noSession, ended, kLength, due}
 use Rattle.exchange.specs.declared.Classical.{Classical}
 use Rattle.exchange.specs.declared.Kem.{Kem}
 use Rattle.exchange.specs.declared.Stage.{Stage}
 use Rattle.exchange.specs.declared.Stage.the-variants.{Started, CSent, InitRead, ReplyRead, SecretDone, Complete}
 use Rattle.exchange.specs.declared.Lengths.{Lengths}
+use Rattle.exchange.specs.declared.Session.{Session}
 use Rattle.exchange.specs.declared.Exchange.{Exchange}
 use Rattle.exchange.specs.declared.Step.{Step}
 use Rattle.exchange.specs.declared.SecretStep.{SecretStep}
@@ -114,10 +116,22 @@ withOwn role l ks s = cond (eqb role server) (withS l ks s) l
 
 -- an exchange at another stage, with these lengths; with this K record and this H too
 abbrev pub withStage : Exchange → Stage → Lengths → Exchange
-withStage e stage lens = record { stage = stage; role = e .role; method = e .method; lens = lens; k = e .k; h = e .h }
+withStage e stage lens = record { stage = stage; role = e .role; method = e .method; lens = lens; k = e .k; h = e .h; session = e .session }
 
 abbrev pub withSecret : Exchange → Lengths → List ℕ → List ℕ → Exchange
-withSecret e lens k h = record { stage = SecretDone; role = e .role; method = e .method; lens = lens; k = k; h = h }
+withSecret e lens k h = record { stage = SecretDone; role = e .role; method = e .method; lens = lens; k = k; h = h; session = e .session }
+
+-- a session with one more exchange completed, by a method and with this H: the first gives the identifier and its length, which no later one changes
+unfoldable pub oneMore : ℕ → List ℕ → Session → Session
+oneMore m h s = record {
+  id = cond (eqb (s .count) 0) h (s .id);
+  len = cond (eqb (s .count) 0) (rowOf m .«digest_len») (s .len);
+  count = s .count + 1;
+}
+
+-- an exchange whose last step is done
+abbrev pub withLast : Exchange → Exchange
+withLast e = record { stage = Complete; role = e .role; method = e .method; lens = e .lens; k = e .k; h = e .h; session = oneMore (e .method) (e .h) (e .session) }
 
 -- the K record of K's bytes
 unfoldable pub kRecord : List ℕ → List ℕ
@@ -138,11 +152,11 @@ taken e room (init p) = withStage e InitRead (withC (e .lens) (length (fieldOf p
 taken e room (reply p) = withStage e ReplyRead (withS (e .lens) (length (fieldOf p 0)) (length (fieldOf p 1)))
 taken e room (secret cl x kem kPq ks s) =
     withSecret e (withOwn (e .role) (e .lens) (length ks) (length s)) (kRecord (kOf (e .method) x kPq)) (inputHash e room x kPq ks s)
-taken e room (sign g out kOut) = withStage e Complete (e .lens)
-taken e room (verdict a b kOut) = withStage e Complete (e .lens)
+taken e room (sign g out kOut) = withLast e
+taken e room (verdict a b kOut) = withLast e
 
 unfoldable pub exchangeAfter : Exchange → List ℕ → Call → Exchange
-exchangeAfter e room q = byKind (kind (number e room q)) (taken e room q) e (ended (number e room q) (e .role) (e .method))
+exchangeAfter e room q = byKind (kind (number e room q)) (taken e room q) e (ended (number e room q) (e .role) (e .method) (e .session))
 
 -- a peer fault fills the whole room with zeros
 unfoldable pub roomAfter : Exchange → List ℕ → Call → List ℕ
@@ -198,7 +212,7 @@ outputAfter n out b = byKind (kind n) (onto out b) out out
 
 -- what a refused step answers and leaves, by its number alone
 abbrev pub refusedStep : ℕ → Exchange → Step
-refusedStep n e = record { number = n; count = 0; second = 0; exchange = byKind (kind n) e e (ended n (e .role) (e .method)) }
+refusedStep n e = record { number = n; count = 0; second = 0; exchange = byKind (kind n) e e (ended n (e .role) (e .method) (e .session)) }
 
 abbrev pub refusedRoom : ℕ → List ℕ → List ℕ
 refusedRoom n room = byKind (kind n) room room (zeros (length room))
@@ -217,8 +231,8 @@ lengthsOf vc vs ic is = record { vc = length vc; vs = length vs; ic = length ic;
 unfoldable pub started : ℕ → ℕ → List ℕ → List ℕ → List ℕ → List ℕ → ℕ → Step
 started role m vc vs ic is room =
     cond (eqb (startCause role m vc vs ic is room) 0)
-    (record { number = 0; count = 0; second = 0; exchange = record { stage = Started; role = role; method = m; lens = lengthsOf vc vs ic is; k = zeros kSize; h = zeros hSize } })
-    (record { number = startCause role m vc vs ic is room; count = 0; second = 0; exchange = ended (startCause role m vc vs ic is room) 0 0 })
+    (record { number = 0; count = 0; second = 0; exchange = record { stage = Started; role = role; method = m; lens = lengthsOf vc vs ic is; k = zeros kSize; h = zeros hSize; session = noSession } })
+    (record { number = startCause role m vc vs ic is room; count = 0; second = 0; exchange = ended (startCause role m vc vs ic is room) 0 0 noSession })
 
 unfoldable pub startedRoom : ℕ → ℕ → List ℕ → List ℕ → List ℕ → List ℕ → List ℕ → List ℕ
 startedRoom role m vc vs ic is room =

@@ -30,7 +30,16 @@ pub struct Lengths {
     pub s: usize,
 }
 
-// An exchange. Role 1 is the client's, 2 the server's. The K record and H are all zeros until the secret step, and after a peer's fault.
+// What lasts over the exchanges of one connection: the session identifier, which is the first H of a completed exchange, its length, and how many
+// exchanges were completed. All zeros until the first is.
+pub struct Session {
+    pub id: [u8; limits::H_SIZE],
+    pub len: usize,
+    pub count: u64,
+}
+
+// An exchange. Role 1 is the client's, 2 the server's. The K record and H are all zeros until the secret step, after a peer's fault, and where an
+// exchange begins again.
 pub struct Exchange {
     pub stage: Stage,
     pub role: u8,
@@ -38,6 +47,7 @@ pub struct Exchange {
     pub lens: Lengths,
     pub k: [u8; limits::K_SIZE],
     pub h: [u8; limits::H_SIZE],
+    pub session: Session,
 }
 
 // What the classical primitive gave: nothing, or so many bytes, lent beside it.

@@ -22,10 +22,10 @@ use Rattle.exchange.specs.Record.{hasK, kBodyFits, kFits, isComplete, completed
 use Rattle.exchange.specs.declared.Stage.{Stage}
 use Rattle.exchange.specs.declared.Stage.the-variants.{Started, CSent, InitRead, ReplyRead, SecretDone, Complete, Failed}
 use Rattle.exchange.proofs.CauseFacts.{method-row}
-use Rattle.exchange.proofs.DueLaws.{completed-known}
-use Rattle.stored.specs.Stored.{fits, decoded, byFit, kKept, hKept}
+use Rattle.exchange.proofs.DueLaws.{completed-known, session-known, id-most}
+use Rattle.stored.specs.Stored.{fits, number16, decoded, byFit, kKept, hKept, idLenTold, idKept}
 use Rattle.stored.proofs.StoredLaws.{method-read, size-taken, fits-known, fit-taken, fit-left}
-use Rattle.keys.specs.Derived.{deriveCause, recordedK, recordedH}
+use Rattle.keys.specs.Derived.{deriveCause, recordedK, recordedH, identifier}
 
 -- ---- the number
 
@@ -133,10 +133,10 @@ read b m kind n c p q e =
     let d = completed-known (decoded b) (f .1) in
     let r = method-row (decoded b .method) (d .1 .method-ok) in
     let k : kKept b ≡ decoded b .k = sym (size-taken b [] (take kSize (drop 19 b)) l) in
-    let h : hKept b ≡ decoded b .h = sym (size-taken b [] (drop 90 b) l) in
+    let h : hKept b ≡ decoded b .h = sym (size-taken b [] (take hSize (drop 90 b)) l) in
     let g : kind ≡ rowOf (decoded b .method) .«digest_len» = q ∙ ap (λ (y : ℕ). rowOf y .«digest_len») (method-read b m p) in
     let kl : length (kKept b) ≡ kSize = ap length k ∙ omega (arith, length-take kSize (drop 19 b), length-drop 19 b) in
-    let hl : length (hKept b) ≡ hSize = ap length h ∙ omega (arith, length-drop 90 b) in
+    let hl : length (hKept b) ≡ hSize = ap length h ∙ omega (arith, length-take hSize (drop 90 b), length-drop 90 b) in
     let s : n ≡ number32 (decoded b .k) = e ∙ number-at (kKept b) 0 (omega (arith, kl)) ∙ ap number32 k in
     let u = recorded-most (rowOf (decoded b .method)) (decoded b .stage) (decoded b .k) (complete-k (decoded b .stage) (d .0)) (d .1 .key) in
     record {
@@ -148,4 +148,24 @@ read b m kind n c p q e =
       k-length = kl;
       k-is = (λ i. take (4 + s i) (k i));
       h-is = (λ i. take (g i) (h i));
+    }
+
+-- the session identifier
+pub record Named (b : List ℕ) (n : ℕ) : Type 0 where
+  pub small : n ≤ hSize
+  pub length-is : length (idKept b) ≡ hSize
+  pub id-is : take n (idKept b) ≡ identifier (decoded b)
+
+pub named : (b : List ℕ) (n : ℕ) → (fits b && completed (decoded b)) ≡ true → n ≡ idLenTold b → Named b n
+unfolding decoded
+named b n c e =
+    let f = and-true (fits b) (completed (decoded b)) c in
+    let l = fits-known b (f .0) .0 in
+    let d = completed-known (decoded b) (f .1) .1 in
+    let k : idKept b ≡ decoded b .session .id = sym (size-taken b [] (drop 164 b) l) in
+    let g : n ≡ decoded b .session .len = e ∙ sym (size-taken b 0 (number16 b 154) l) in
+    record {
+      small = omega (arith, g, id-most (decoded b .session .len) (decoded b .session .count) (session-known (decoded b .stage) (decoded b .session) (d .session) .1));
+      length-is = ap length k ∙ omega (arith, length-drop 164 b);
+      id-is = (λ i. take (g i) (k i));
     }

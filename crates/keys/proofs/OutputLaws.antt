@@ -108,7 +108,7 @@ module _ (room : List ℕ) (b : Book) (e : Exchange) (room′ : List ℕ) (s : S
           let n = unless-holds (completed e) 1 (deriveFed letter len (length out)) (r .fits) ∙ sym (unless-holds (hasAll b) 1 (deriveFed letter len (length out)) a) in
           let d = ap (λ (m : ℕ). rowOf m .«digest_len») (r .method-is) in
           let h = ap (λ (k : ℕ). take k (e .h)) d ∙ r .h-in in
-          (n, (λ i. outputAfter (n i) out (keyOf (d i) (r .k-in i) (h i) letter (h i) len)))
+          (n, (λ i. outputAfter (n i) out (keyOf (d i) (r .k-in i) (h i) letter (r .id-in i) len)))
       by-stage false w =
           let n = unless-fails (completed e) 1 (deriveFed letter len (length out)) (sym (completed-not e w)) in
           let m = unless-fails (hasAll b) 1 (deriveFed letter len (length out)) (sym (complete-sim room b e room′ s) ∙ w) in (

@@ -27,9 +27,9 @@ recordedK e = take (kLength (e .k)) (e .k)
 abbrev pub recordedH : Exchange → List ℕ
 recordedH e = take (rowOf (e .method) .«digest_len») (e .h)
 
--- the session identifier: until rekeying comes, H
+-- the session identifier as it is recorded, by its own length: that of the method whose exchange was the first to complete
 abbrev pub identifier : Exchange → List ℕ
-identifier e = recordedH e
+identifier e = take (e .session .len) (e .session .id)
 
 -- the key, by the hash of the method
 unfoldable pub keyIn : Exchange → ℕ → ℕ → List ℕ

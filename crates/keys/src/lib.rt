@@ -111,6 +111,8 @@ pub fn derive(ex: &[u8], letter: usize, len: usize, out: &mut [u8]) -> u8
     let k = stored::k_in(ex);
     let size = 4 + wire::u32_at(k, 0) as usize;
     let h = &stored::h_in(ex)[0..kind];
-    write_key(kind, &k[0..size], h, letter as u8, h, &mut out[0..len]);
+    let id_len = stored::id_len_in(ex);
+    let id = &stored::id_in(ex)[0..id_len];
+    write_key(kind, &k[0..size], h, letter as u8, id, &mut out[0..len]);
     0
 }

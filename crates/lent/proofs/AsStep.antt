@@ -1,13 +1,17 @@
 -- What one call on an exchange's bytes is, by the step's definitions. Assumes nothing.
 use Prim.Native.Nat.{ℕ}
 use mathlib.Core.Path.{_≡_, refl, sym, ap, _∙_}
-use mathlib.Core.List.{List}
+use mathlib.Core.List.{List, []}
+use mathlib.Core.Bool.{Bool, true, false, cond}
+use lib.ListN.{length}
+use lib.Dec.{eqb}
 use Rattle.exchange.specs.Record.{ended}
 use Rattle.exchange.specs.Numbers.{Kind, accepted, refused, fault, kind, byKind}
 use Rattle.exchange.specs.Steps.{Call, number, taken, exchangeAfter, roomAfter}
+use Rattle.exchange.specs.Again.{againNumber, begunAgain, againAfter, againRoom}
 use Rattle.exchange.specs.declared.Exchange.{Exchange}
 use Rattle.stored.specs.Stored.{encoded}
-use Rattle.lent.specs.Lent.{Left, left, tells, toldSize, writes, outputsAfter, bytesAfter, stepLeft, untouched, lentCall}
+use Rattle.lent.specs.Lent.{Left, left, tells, toldSize, writes, outputsAfter, bytesAfter, stepLeft, untouched, lentCall, againLeft, lentAgain}
 use Rattle.lent.proofs.Kept.{Storable, lent-is-step}
 
 -- a call that answered n, told, and left these bytes, on the bytes of x
@@ -23,8 +27,8 @@ bytes-after : (x : Exchange) (room : List ℕ) (q : Call) → bytesAfter (encode
 unfolding bytesAfter exchangeAfter
 bytes-after x room q = by-kind (kind (number x room q))
   where
-    by-kind : (k : Kind) → byKind k (encoded (taken x room q)) (encoded x) (encoded (ended (number x room q) (x .role) (x .method)))
-        ≡ encoded (byKind k (taken x room q) x (ended (number x room q) (x .role) (x .method)))
+    by-kind : (k : Kind) → byKind k (encoded (taken x room q)) (encoded x) (encoded (ended (number x room q) (x .role) (x .method) (x .session)))
+        ≡ encoded (byKind k (taken x room q) x (ended (number x room q) (x .role) (x .method) (x .session)))
     by-kind accepted = refl
     by-kind refused = refl
     by-kind fault = refl
@@ -53,3 +57,19 @@ as-step b x room q outs n told ex room′ outs′ e h l =
       room-is = ap (λ (y : Left). y .room) k;
       outputs-are = ap (λ (y : Left). y .outputs) k;
     }
+
+-- ---- to begin again
+
+-- what a beginning leaves, in bytes
+abbrev pub byAgain : Exchange → List ℕ → ℕ → List ℕ → List ℕ → Left
+byAgain x room m ic is = left (againNumber x (length room) m ic is) [] (encoded (againAfter x (length room) m ic is)) (againRoom x room m ic is) []
+
+pub as-again : (x : Exchange) (room : List ℕ) (m : ℕ) (ic is : List ℕ) → Storable x → byAgain x room m ic is ≡ lentAgain (encoded x) room m ic is
+unfolding lentAgain againLeft againAfter
+as-again x room m ic is h =
+    ap (λ (ex : List ℕ). left (againNumber x (length room) m ic is) [] ex (againRoom x room m ic is) []) (by-test (eqb (againNumber x (length room) m ic is) 0))
+    ∙ sym (lent-is-step (λ (y : Exchange). againLeft (encoded x) y room m ic is) (untouched (encoded x) room 0 []) x h)
+  where
+    by-test : (t : Bool) → encoded (cond t (begunAgain x m (length ic) (length is)) x) ≡ cond t (encoded (begunAgain x m (length ic) (length is))) (encoded x)
+    by-test true = refl
+    by-test false = refl

@@ -1,17 +1,21 @@
 -- What a call on an exchange in lent bytes answers and leaves, by the definitions of the step by value. Assumes nothing.
 use Prim.Native.Nat.{ℕ, _+_}
 use mathlib.Core.List.{List, [], _∷_, _++_}
-use lib.ListN.{length}
+use mathlib.Core.Bool.{Bool, cond, _&&_}
+use lib.ListN.{length, drop}
+use lib.Dec.{eqb}
 use Rattle.limits.specs.Limits.{hSize}
 use Rattle.buffers.specs.Bytes.{zeros}
 use Rattle.wire.specs.declared.Part.{Part}
 use Rattle.messages.specs.Messages.{initBytes}
 use Rattle.exchange.specs.Steps.{Call, ownC, init, reply, secret, sign, verdict, number, taken, roomAfter, replyOf, answered, handedH, outputAfter, stepPart, started, startedRoom}
+use Rattle.exchange.specs.Again.{againNumber, begunAgain, againRoom}
 use Rattle.exchange.specs.Numbers.{kind, byKind}
-use Rattle.exchange.specs.Record.{ended}
+use Rattle.exchange.specs.Record.{ended, idFits}
 use Rattle.exchange.specs.declared.Exchange.{Exchange}
 use Rattle.exchange.specs.declared.Step.{Step}
-use Rattle.stored.specs.Stored.{encoded, decoded, byFit, bySize}
+use Rattle.stored.specs.Stored.{encoded, fits, decoded, byFit, bySize}
+use Rattle.changes.specs.Changes.{putHead}
 
 -- the number; what goes through lent numbers, H too; and the lent bytes as they are left: the exchange's, the room, the outputs
 pub record Left : Type 0 where
@@ -72,7 +76,7 @@ outputsAfter n (out ∷ outs) (b ∷ bs) = outputAfter n out b ∷ outputsAfter 
 -- the bytes of an exchange after it: those of the exchange with the step taken; as they were on a refusal; those of an ended exchange
 -- on a peer's fault
 unfoldable pub bytesAfter : List ℕ → Exchange → List ℕ → Call → List ℕ
-bytesAfter b e room q = byKind (kind (number e room q)) (encoded (taken e room q)) b (encoded (ended (number e room q) (e .role) (e .method)))
+bytesAfter b e room q = byKind (kind (number e room q)) (encoded (taken e room q)) b (encoded (ended (number e room q) (e .role) (e .method) (e .session)))
 
 -- on an exchange's bytes: all as the step by value has it
 unfoldable pub stepLeft : List ℕ → Exchange → List ℕ → Call → List (List ℕ) → Left
@@ -100,6 +104,21 @@ unfoldable pub lentStart : List ℕ → ℕ → ℕ → List ℕ → List ℕ �
 lentStart b role m vc vs ic is room =
     bySize b (startLeft (started role m vc vs ic is (length room)) (startedRoom role m vc vs ic is room)) (untouched b room 0 [])
 
--- the bytes after a refusal, by its number alone
+-- ---- the session that lent bytes tell: an exchange's, at any stage, whose identifier's length goes with its count
+
+unfoldable pub sessionKnown : List ℕ → Bool
+sessionKnown b = fits b && idFits (decoded b .session .len) (decoded b .session .count)
+
+-- ---- to begin again: on an exchange's bytes as it is by value; on others 1, and all as it was
+
+-- the bytes of an exchange after it: as they were on a refusal
+unfoldable pub againLeft : List ℕ → Exchange → List ℕ → ℕ → List ℕ → List ℕ → Left
+againLeft b e room m ic is =
+    left (againNumber e (length room) m ic is) [] (cond (eqb (againNumber e (length room) m ic is) 0) (encoded (begunAgain e m (length ic) (length is))) b) (againRoom e room m ic is) []
+
+unfoldable pub lentAgain : List ℕ → List ℕ → ℕ → List ℕ → List ℕ → Left
+lentAgain b room m ic is = byFit b (againLeft b (decoded b) room m ic is) (untouched b room 0 [])
+
+-- the bytes after a refusal, by its number alone: those of an ended exchange on a peer's fault, which keeps the session's bytes
 abbrev pub refusedBytes : ℕ → List ℕ → List ℕ
-refusedBytes n b = byKind (kind n) b b (bySize b (encoded (ended n (decoded b .role) (decoded b .method))) b)
+refusedBytes n b = byKind (kind n) b b (bySize b (putHead (zeros 154 ++ drop 154 b) 6 n (decoded b .role) (decoded b .method) 0 0 0 0) b)

@@ -2,15 +2,19 @@
 // around it, K handed out. Bytes of another size stay, and count as having no lengths and no K; no step gets here with them.
 use exchange::Lengths;
 ghost use mathlib.Core.Path.{_≡_};
-ghost use Prim.Native.Nat.{_+_};
-ghost use lib.ListN.{length, set};
-ghost use Rattle.limits.specs.Limits.{exchangeSize};
+ghost use Prim.Native.Nat.{_+_, _<_};
+ghost use lib.ListN.{length, getD, set, drop};
+ghost use mathlib.Core.List.{_++_};
+ghost use mathlib.Core.Bool.{cond};
+ghost use lib.Dec.{eqb};
+ghost use Rattle.limits.specs.Limits.{countMost};
 ghost use Rattle.buffers.specs.Bytes.{zeros, laid};
 ghost use Rattle.wire.specs.Strings.{numberAt};
 ghost use Rattle.transcript.specs.Fields.{field, fieldSize, around};
 ghost use Rattle.exchange.specs.Steps.{headSize, fieldsSize, refusedRoom};
-ghost use Rattle.stored.specs.Stored.{bySize, lengthsTold, kKept};
-ghost use Rattle.changes.specs.Changes.{put16, putHead};
+ghost use Rattle.methods.specs.Rows.{rowOf};
+ghost use Rattle.stored.specs.Stored.{bySize, lengthsTold, kKept, countTold};
+ghost use Rattle.changes.specs.Changes.{put16, putId, putMore, putHead};
 ghost use Rattle.lent.specs.Lent.{refusedBytes};
 
 // The first and the last number that is a peer's fault.
@@ -38,7 +42,7 @@ pub fn fields_end(l: Lengths) -> usize
     transcript::add_sizes(c, transcript::field_size(l.s))
 }
 
-// Makes lent bytes those of an exchange at a stage, with no length but those of both V and both I, no K and no H.
+// Makes lent bytes those of an exchange at a stage, with no length but those of both V and both I, no K and no H. The session stays.
 pub fn make(
     ex: &mut [u8],
     stage: u8,
@@ -50,12 +54,12 @@ pub fn make(
     ic: usize,
     is: usize,
 )
-    ensures { λ _. ⌜ now (ex .exit) ≡ bySize (now (ex .entry)) (putHead (zeros exchangeSize) stage fail role method vc vs ic is) (now (ex .entry)) ⌝ }
+    ensures { λ _. ⌜ now (ex .exit) ≡ bySize (now (ex .entry)) (putHead (zeros 154 ++ drop 154 (now (ex .entry))) stage fail role method vc vs ic is) (now (ex .entry)) ⌝ }
 {
     if ex.len() != limits::EXCHANGE_SIZE {
         return;
     }
-    transcript::wipe(ex);
+    transcript::wipe(&mut ex[0..stored::SESSION_AT]);
     changes::put_head(ex, stage, fail, role, method, vc, vs, ic, is);
 }
 
@@ -93,13 +97,38 @@ pub fn with_s(ex: &mut [u8], room: &mut [u8], stage: u8, ks: &[u8], s: &[u8])
     changes::put_s(ex, stage, ks.len(), s.len());
 }
 
+// The first exchange of a session that completes gives it its identifier.
+fn name_session(ex: &mut [u8], count: u64)
+    ensures { λ _.
+        let b = now (ex .entry) in
+        ⌜ now (ex .exit) ≡ cond (eqb count 0) (bySize b (putId b (rowOf (getD b 4 0) .«digest_len»)) b) b ⌝ }
+{
+    if count != 0 {
+        return;
+    }
+    let method = stored::byte_in(ex, stored::METHOD_AT);
+    changes::put_id(ex, methods::digest_len(method));
+}
+
+// One more exchange of the session is complete.
+fn one_more(ex: &mut [u8])
+    requires { ⌜ countTold (now ex) < countMost ⌝ }
+    ensures { λ _. ⌜ now (ex .exit) ≡ bySize (now (ex .entry)) (putMore (now (ex .entry))) (now (ex .entry)) ⌝ }
+{
+    let count = stored::count_in(ex);
+    name_session(ex, count);
+    changes::put_count(ex, count + 1);
+}
+
 // The last step: K goes to its output, and the exchange is complete. Returns K's length.
 pub fn finish(ex: &mut [u8], k_out: &mut [u8]) -> usize
-    ensures { λ r. ⌜ (r ≡ 4 + numberAt (kKept (now (ex .entry))) 0) × (now (ex .exit) ≡ bySize (now (ex .entry)) (set (now (ex .entry)) 1 5) (now (ex .entry))) × (now («k_out» .exit) ≡ laid (now («k_out» .entry)) 0 (kKept (now (ex .entry)))) ⌝ }
+    requires { ⌜ countTold (now ex) < countMost ⌝ }
+    ensures { λ r. ⌜ (r ≡ 4 + numberAt (kKept (now (ex .entry))) 0) × (now (ex .exit) ≡ bySize (now (ex .entry)) (set (putMore (now (ex .entry))) 1 5) (now (ex .entry))) × (now («k_out» .exit) ≡ laid (now («k_out» .entry)) 0 (kKept (now (ex .entry)))) ⌝ }
 {
     let k = stored::k_in(ex);
     buffers::put_bytes(k_out, 0, k);
     let size = wire::u32_at(k, 0) as usize;
+    one_more(ex);
     changes::put_stage(ex, stored::COMPLETE);
     4 + size
 }

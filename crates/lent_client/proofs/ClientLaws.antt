@@ -24,7 +24,7 @@ use Rattle.transcript.specs.Fields.{field, fieldLength, around, fieldSize}
 use Rattle.transcript.proofs.RoomLaws.{length-field, fieldLength-most}
 use Rattle.exchange.specs.Causes.{replyCause, ownCCause, verdictCause}
 use Rattle.exchange.specs.Record.{kLength}
-use Rattle.exchange.specs.Steps.{reply, fedCause, number, ownC, headEnd, fieldsEnd, standingC, filled, withC, withS, taken, countOf, roomAfter, stepPart, verdict, withStage, headSize, fieldsSize}
+use Rattle.exchange.specs.Steps.{reply, fedCause, number, ownC, headEnd, fieldsEnd, standingC, filled, withC, withS, taken, countOf, roomAfter, stepPart, verdict, withStage, withLast, headSize, fieldsSize}
 use Rattle.exchange.specs.declared.Stage.the-variants.{CSent, ReplyRead, Complete}
 use Rattle.exchange.specs.declared.Exchange.{Exchange}
 use Rattle.exchange.specs.declared.Lengths.{Lengths}
@@ -171,7 +171,7 @@ module _ (e : Exchange) (room : List ℕ) (a b : Bool) (kOut : List ℕ) (z : nu
   unfolding tells countOf
   verdict-tells n h = ap (λ (m : ℕ). m ∷ []) h ∙ ap counts (step-accepted e room (verdict a b (length kOut)) z .0)
 
-  pub verdict-taken : encoded (withStage e Complete (e .lens)) ≡ encoded (taken e room (verdict a b (length kOut)))
+  pub verdict-taken : encoded (withLast e) ≡ encoded (taken e room (verdict a b (length kOut)))
   unfolding taken
   verdict-taken = refl
 

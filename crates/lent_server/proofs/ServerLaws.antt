@@ -26,7 +26,7 @@ use Rattle.transcript.specs.Fields.{field, fieldLength, fieldSize}
 use Rattle.transcript.proofs.RoomLaws.{fieldLength-most}
 use Rattle.exchange.specs.Causes.{initCause, blobOk, signCause}
 use Rattle.exchange.specs.Record.{due, kLength}
-use Rattle.exchange.specs.Steps.{init, stepNumber, fedCause, number, headEnd, fieldsEnd, filled, withC, taken, countOf, secondOf, roomAfter, stepPart, sign, standingKS, standingS, replyOf, withStage, headSize, fieldsSize}
+use Rattle.exchange.specs.Steps.{init, stepNumber, fedCause, number, headEnd, fieldsEnd, filled, withC, taken, countOf, secondOf, roomAfter, stepPart, sign, standingKS, standingS, replyOf, withStage, withLast, headSize, fieldsSize}
 use Rattle.exchange.specs.declared.Stage.the-variants.{InitRead, Complete}
 use Rattle.exchange.specs.declared.Exchange.{Exchange}
 use Rattle.exchange.specs.declared.Lengths.{Lengths}
@@ -195,7 +195,7 @@ module _ (e : Exchange) (room g out kOut : List ℕ) where
   unfolding tells countOf secondOf
   sign-tells z count second a b = (λ i. a i ∷ b i ∷ []) ∙ ap bothCounts (step-accepted e room (sign g (length out) (length kOut)) z .0)
 
-  pub sign-taken : encoded (withStage e Complete (e .lens)) ≡ encoded (taken e room (sign g (length out) (length kOut)))
+  pub sign-taken : encoded (withLast e) ≡ encoded (taken e room (sign g (length out) (length kOut)))
   unfolding taken
   sign-taken = refl
 

@@ -44,7 +44,7 @@ use Rattle.exchange.specs.declared.Kem.{Kem}
 use Rattle.stored.specs.Stored.{encoded, lengthsIn, decoded, bySize, lengthsTold}
 use Rattle.changes.specs.Changes.{put16}
 use Rattle.stored.proofs.StoredLaws.{role-read, size-taken, fits-known}
-use Rattle.stored.proofs.RoundTrip.{Short, decoded-encoded, encoded-fits}
+use Rattle.stored.proofs.RoundTrip.{Short, SmallSession, decoded-encoded, encoded-fits}
 use Rattle.lent.specs.Lent.{tells}
 use Rattle.lent.proofs.LentLaws.{Opened, s-changed, k-changed, h-changed}
 use Rattle.lent.proofs.Kept.{length-h}
@@ -295,14 +295,14 @@ small-short l h = record {
 }
 
 -- what the bytes of an exchange tell
-module _ (e : Exchange) (b : List ℕ) (h : b ≡ encoded e) (k : length (e .k) ≡ kSize) (m : length (e .h) ≡ hSize) where
+module _ (e : Exchange) (b : List ℕ) (h : b ≡ encoded e) (k : length (e .k) ≡ kSize) (m : length (e .h) ≡ hSize) (n : length (e .session .id) ≡ hSize) where
   whole : length b ≡ exchangeSize
-  whole = ap length h ∙ fits-known (encoded e) (encoded-fits e k m) .0
+  whole = ap length h ∙ fits-known (encoded e) (encoded-fits e k m n) .0
 
-  lengths-there : Short (e .lens) → lengthsTold b ≡ e .lens
+  lengths-there : Short (e .lens) → SmallSession (e .session) → lengthsTold b ≡ e .lens
   unfolding decoded
-  lengths-there f =
-      sym (size-taken b noLengths (lengthsIn b) whole) ∙ ap lengthsIn h ∙ ap (λ (y : Exchange). y .lens) (decoded-encoded e f k)
+  lengths-there f g =
+      sym (size-taken b noLengths (lengthsIn b) whole) ∙ ap lengthsIn h ∙ ap (λ (y : Exchange). y .lens) (decoded-encoded e f g k m)
 
 module _ (b room : List ℕ) (cl : Classical) (x : List ℕ) (kem : Kem) (kPq ks s : List ℕ) (o : Opened b room (secret cl x kem kPq ks s)) where
   abbrev q : Call
@@ -351,7 +351,7 @@ module _ (b room : List ℕ) (cl : Classical) (x : List ℕ) (kem : Kem) (kPq ks
         ex-is = λ ex′ y.
             let d : List ℕ = hOf (e .method) (take (end + len) left) in
             h-changed e l bytes (e .h) d ex ex′ size (o .h-size ∙ sym (length-h (e .method) (take (end + len) left) (fit .method-ok))) c
-            (whole (withSecret e l bytes (e .h)) ex c size (o .h-size)) y
+            (whole (withSecret e l bytes (e .h)) ex c size (o .h-size) (o .id-size)) y
             ∙ ap encoded (taken-is e room cl x kem kPq ks s z l bytes d a (j .bytes-are) (h-taken e room cl x kem kPq ks s z (end + len) left n r));
       }
 
@@ -362,8 +362,8 @@ module _ (b room : List ℕ) (cl : Classical) (x : List ℕ) (kem : Kem) (kPq ks
           let l = withS (e .lens) (length ks) (length s) in
           let e₁ = withStage e SecretDone l in
           let a = s-changed b room q o SecretDone (length ks) (length s) ex₁ refl (j .own ∙ rw w) in
-          let g = j .end-is ∙ ap fieldsSize (lengths-there e₁ ex₁ a (o .k-size) (o .h-size) (small-short l (u .sums))) in
-          let c = k-changed e₁ bytes ex₁ ex refl (o .k-size) size a (whole e₁ ex₁ a (o .k-size) (o .h-size)) (j .ex-is) in
+          let g = j .end-is ∙ ap fieldsSize (lengths-there e₁ ex₁ a (o .k-size) (o .h-size) (o .id-size) (small-short l (u .sums)) (o .session)) in
+          let c = k-changed e₁ bytes ex₁ ex refl (o .k-size) size a (whole e₁ ex₁ a (o .k-size) (o .h-size) (o .id-size)) (j .ex-is) in
           let f = server-done e room cl x kem kPq ks s z r _ _ end len bytes src room₁ left (ap headSize (o .lens-are)) (ap (λ (y : Lengths). fieldSize (y .c)) (o .lens-are)) (j .own-room ∙ rw w) g (j .len-is) (j .bytes-are) (j .src-is) (j .left-is) in (
             with-h l (own-server e room cl x kem kPq ks s z r) c (f .0) (f .1),
             omega (arith, g ∙ fields-fits l (u .sums), j .len-is, u .all-fits),
@@ -371,8 +371,8 @@ module _ (b room : List ℕ) (cl : Classical) (x : List ℕ) (kem : Kem) (kPq ks
       by-role false w =
           let r : e .role ≡ server → ⊥ = λ h. eqb-false role server w (role-read b role (j .role-is) ∙ h) in
           let a : ex₁ ≡ encoded e = j .own ∙ rw w (o .bytes-are) in
-          let g = j .end-is ∙ ap fieldsSize (lengths-there e ex₁ a (o .k-size) (o .h-size) (small-short (e .lens) (fit .sums))) in
-          let c = k-changed e bytes ex₁ ex (o .no-fail) (o .k-size) size a (whole e ex₁ a (o .k-size) (o .h-size)) (j .ex-is) in
+          let g = j .end-is ∙ ap fieldsSize (lengths-there e ex₁ a (o .k-size) (o .h-size) (o .id-size) (small-short (e .lens) (fit .sums)) (o .session)) in
+          let c = k-changed e bytes ex₁ ex (o .no-fail) (o .k-size) size a (whole e ex₁ a (o .k-size) (o .h-size) (o .id-size)) (j .ex-is) in
           let n : room₁ ≡ room = j .own-room ∙ rw w in
           let m = j .left-is ∙ ap (λ (y : List ℕ). laid y end src) n in
           let f = client-done e room cl x kem kPq ks s z r end len bytes src left g (j .len-is) (j .bytes-are) (j .src-is) m in (

@@ -1,23 +1,28 @@
 -- What the start lays into the room, and what it answers. Assumes nothing.
 use Prim.Native.Nat.{ℕ, _+_}
-use mathlib.Core.Path.{_≡_, sym, ap, _∙_}
+use mathlib.Core.Path.{_≡_, refl, sym, ap, _∙_}
 use mathlib.Core.List.{List, _++_}
 use native.Mathlib.Omega.{arith}
-use lib.ListN.{length}
+use lib.ListN.{length, drop}
 use borrow.Author.Tests.{eq-eqb, ne-eqb}
-use Rattle.limits.specs.Limits.{versionMost, kexinitMost, kSize, hSize}
+use Rattle.limits.specs.Limits.{versionMost, kexinitMost, kSize, hSize, exchangeSize}
 use Rattle.limits.proofs.RangeLaws.{within-least, within-most}
 use Rattle.buffers.specs.Bytes.{zeros, onto, laid}
 use Rattle.wire.proofs.StringLaws.{length-string}
 use Rattle.transcript.specs.Fields.{field}
 use Rattle.transcript.proofs.RoomLaws.{field-some}
 use Rattle.exchange.specs.Causes.{startCause}
-use Rattle.exchange.specs.Record.{ended}
+use Rattle.exchange.specs.Record.{noSession, ended}
 use Rattle.exchange.specs.Steps.{lengthsOf, started, startedRoom, HeadFits}
+use Rattle.exchange.specs.declared.Stage.{Stage}
 use Rattle.exchange.specs.declared.Stage.the-variants.{Started}
 use Rattle.exchange.specs.declared.Exchange.{Exchange}
 use Rattle.exchange.specs.declared.Step.{Step}
 use Rattle.exchange.proofs.CauseFacts.{start-known}
+use Rattle.stored.specs.Stored.{stageNumber, failNumber, encoded, bySize}
+use Rattle.stored.proofs.StoredLaws.{size-taken}
+use Rattle.changes.specs.Changes.{putHead}
+use Rattle.changes.proofs.ChangeLaws.{head-put}
 use Rattle.lent.proofs.LaidLaws.{then-laid, begun-onto, begun-laid}
 
 -- ---- the room's beginning
@@ -41,18 +46,29 @@ head-laid room vc vs ic is f o1 o2 o3 o4 e1 e2 e3 e4 =
 
 -- ---- the start
 
+-- what is made of wiped bytes
+pub made-fresh : (s : Stage) (role m vc vs ic is : ℕ) (o ex : List ℕ) → o ≡ zeros exchangeSize
+    → ex ≡ bySize o (putHead (zeros 154 ++ drop 154 o) (stageNumber s) (failNumber s) role m vc vs ic is) o
+    → ex ≡ encoded (record { stage = s; role = role; method = m; lens = record { vc = vc; vs = vs; ic = ic; is = is; ks = 0; c = 0; s = 0 }; k = zeros kSize; h = zeros hSize; session = noSession })
+made-fresh s role m vc vs ic is o ex w e =
+    let F : List ℕ → List ℕ = λ (x : List ℕ). putHead (zeros 154 ++ drop 154 x) (stageNumber s) (failNumber s) role m vc vs ic is in
+    e
+    ∙ ap (λ (x : List ℕ). bySize x (F x) x) w
+    ∙ sym (size-taken (zeros exchangeSize) (zeros exchangeSize) (F (zeros exchangeSize)) refl)
+    ∙ head-put s role m vc vs ic is noSession
+
 -- an answer with no counts
 abbrev pub answer : ℕ → Exchange → Step
 answer n e = record { number = n; count = 0; second = 0; exchange = e }
 
 module _ (role m : ℕ) (vc vs ic is room : List ℕ) (n : ℕ) (e : n ≡ startCause role m vc vs ic is (length room)) where
   -- refused: ended with the number, and the room stays
-  pub start-refused : (x : Exchange) → (n ≡ 0 → ⊥) → x ≡ ended n 0 0
+  pub start-refused : (x : Exchange) → (n ≡ 0 → ⊥) → x ≡ ended n 0 0 noSession
       → (answer n x ≡ started role m vc vs ic is (length room)) × (room ≡ startedRoom role m vc vs ic is room)
   unfolding started startedRoom
   start-refused x h f =
       let z = ne-eqb (startCause role m vc vs ic is (length room)) 0 (λ k. h (e ∙ k)) in
-      (rw z (ap (answer n) f ∙ ap (λ (k : ℕ). answer k (ended k 0 0)) e), rw z)
+      (rw z (ap (answer n) f ∙ ap (λ (k : ℕ). answer k (ended k 0 0 noSession)) e), rw z)
 
   module _ (h : n ≡ 0) where
     -- accepted: both V and both I fit the room
@@ -75,7 +91,7 @@ module _ (role m : ℕ) (vc vs ic is room : List ℕ) (n : ℕ) (e : n ≡ start
 
     -- and there they go
     pub start-accepted : (r : List ℕ) → r ≡ onto room (field vc ++ field vs ++ field ic ++ field is)
-        → (answer 0 (record { stage = Started; role = role; method = m; lens = lengthsOf vc vs ic is; k = zeros kSize; h = zeros hSize }) ≡ started role m vc vs ic is (length room))
+        → (answer 0 (record { stage = Started; role = role; method = m; lens = lengthsOf vc vs ic is; k = zeros kSize; h = zeros hSize; session = noSession }) ≡ started role m vc vs ic is (length room))
         × (r ≡ startedRoom role m vc vs ic is room)
     unfolding started startedRoom
     start-accepted r f =

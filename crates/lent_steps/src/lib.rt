@@ -23,7 +23,7 @@ ghost use Rattle.stored.specs.Stored.{bySize, lengthsTold};
 ghost use Rattle.changes.specs.Changes.{put16};
 ghost use Rattle.lent.specs.Lent.{left, lentCall, lentStart};
 
-// Starts an exchange: 2, 3, 4, or both V and both I go into the room.
+// Starts an exchange, and a session: 2, 3, 4, or both V and both I go into the room.
 pub fn start(
     ex: &mut [u8],
     role: u8,
@@ -39,6 +39,7 @@ pub fn start(
     if ex.len() != limits::EXCHANGE_SIZE {
         return 1;
     }
+    transcript::wipe(ex);
     let n = judge::start_cause(role, method, vc, vs, ic, is, room.len());
     if n != 0 {
         lent::make(ex, stored::FAILED, n, 0, 0, 0, 0, 0, 0);

@@ -68,17 +68,22 @@ letterFirst = 65
 abbrev pub letterLast : ℕ
 letterLast = 70
 
--- an exchange as it is lent at the boundary: the mark of its layout, stage, fail number, role and method, seven lengths of two bytes, K, H
+-- exchanges that one session completes
+abbrev pub countMost : ℕ
+countMost = 4294967295
+
+-- an exchange as it is lent at the boundary: the mark of its layout, stage, fail number, role and method, seven lengths of two bytes, K, H; and what
+-- lasts over the exchanges of a session: the identifier's length in two bytes, the count in eight, the identifier
 abbrev pub exchangeSize : ℕ
-exchangeSize = 154
+exchangeSize = 228
 
 -- the mark: another layout takes another
 abbrev pub exchangeMark : ℕ
-exchangeMark = 2
+exchangeMark = 3
 
 -- the boundary's own number, which the header repeats
 abbrev pub libraryVersion : ℕ
-libraryVersion = 4
+libraryVersion = 5
 
 -- the room, document 01's word for the buffer that is lent for the hash input: at least 32 + 506 + 8,192 + 2,048 + 3,330 + 48 bytes
 abbrev pub roomLeast : ℕ

@@ -52,14 +52,18 @@ pub const LETTER_FIRST: usize = 65;
 
 pub const LETTER_LAST: usize = 70;
 
-// An exchange as it is lent at the boundary: the mark of its layout, stage, fail number, role and method, seven lengths of two bytes, K, H.
-pub const EXCHANGE_SIZE: usize = 154;
+// Exchanges that one session completes.
+pub const COUNT_MOST: u64 = 4294967295;
+
+// An exchange as it is lent at the boundary: the mark of its layout, stage, fail number, role and method, seven lengths of two bytes, K, H; and what
+// lasts over the exchanges of a session: the identifier's length in two bytes, the count in eight, the identifier.
+pub const EXCHANGE_SIZE: usize = 228;
 
 // The mark: another layout takes another, so that bytes of an older library, and bytes that were wiped, are no exchange's.
-pub const EXCHANGE_MARK: u8 = 2;
+pub const EXCHANGE_MARK: u8 = 3;
 
 // The boundary's own number, which the header repeats: it goes up by one where an entry or a size changes.
-pub const LIBRARY_VERSION: u64 = 4;
+pub const LIBRARY_VERSION: u64 = 5;
 
 // The least room that may be lent: 32 + 506 + 8,192 + 2,048 + 3,330 + 48 bytes.
 pub const ROOM_LEAST: usize = 14156;

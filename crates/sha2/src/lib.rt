@@ -351,7 +351,7 @@ const INITIAL_512: [u8; limits::H_SIZE] = [
     0x79,
 ];
 
-fn is_known(kind: usize) -> bool
+pub fn is_known(kind: usize) -> bool
     ensures { λ r. ⌜ r ≡ known kind ⌝ }
 {
     (kind == 32) | (kind == 48) | (kind == 64)

@@ -1,5 +1,5 @@
-// The steps that both roles take, by value: the start and the secret. Each hands back its number, its counts and the exchange as it now
-// is, the secret H too: the step on lent bytes, on bytes of its own.
+// What both roles call, by value: the start, the secret, and beginning again. Each hands back its number, its counts and the exchange as it now
+// is, the secret H too: the call on lent bytes, on bytes of its own.
 use exchange::Classical;
 use exchange::Exchange;
 use exchange::Kem;
@@ -8,6 +8,7 @@ use exchange::Step;
 ghost use mathlib.Core.Path.{_≡_};
 ghost use lib.ListN.{length};
 ghost use Rattle.exchange.specs.Steps.{secret as secretStep, secretAnswered, roomAfter, started, startedRoom};
+ghost use Rattle.exchange.specs.Again.{againAnswered, againRoom};
 
 // Starts an exchange: 2, 3, 4, or both V and both I go into the room.
 pub fn start(
@@ -51,4 +52,16 @@ pub fn take_secret(
     let n = lent_steps::take_secret(&mut b, room, cl, x, kem, k_pq, ks, s, &mut count, &mut h);
     let step = by_value::answer(n, count, 0, &b);
     SecretStep { step, h }
+}
+
+// Begins a complete exchange again, with the V's that stand in the room: 1, 2, 3, 4, 23, or both I go in behind them.
+pub fn again(e: Exchange, room: &mut [u8], method: u8, ic: &[u8], is: &[u8]) -> Step
+    ensures { λ r. ⌜ (r ≡ againAnswered e (length (now (room .entry))) method (now (ic .entry)) (now (is .entry))) × (now (room .exit) ≡ againRoom e (now (room .entry)) method (now (ic .entry)) (now (is .entry))) ⌝ }
+{
+    let mut b = [0u8; limits::EXCHANGE_SIZE];
+    if !by_value::lay(&mut b, e) {
+        return by_value::not_due(e);
+    }
+    let n = lent_again::again(&mut b, room, method, ic, is);
+    by_value::answer(n, 0, 0, &b)
 }

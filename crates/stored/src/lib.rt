@@ -1,12 +1,13 @@
 // An exchange as the bytes that a host lends for it: the mark of the layout, stage, fail number, role and method a byte each, seven
-// lengths of two bytes, the highest first, K and H. What a step reads of them.
+// lengths of two bytes, the highest first, K and H; then the session: the identifier's length in two bytes, the count in eight, the identifier. What a
+// step reads of them.
 use exchange::Lengths;
 use exchange::Stage;
 ghost use mathlib.Core.Path.{_≡_};
 ghost use Prim.Native.Nat.{_+_, _*_, _≤_, _<_};
 ghost use lib.ListN.{length, getD};
 ghost use Rattle.limits.specs.Limits.{exchangeSize};
-ghost use Rattle.stored.specs.Stored.{stageNumber, failNumber, stageOf, marksFit, fits as fitting, number16, Halves, LengthBytes, decoded, lengthsTold, kKept, hKept};
+ghost use Rattle.stored.specs.Stored.{stageNumber, failNumber, stageOf, marksFit, fits as fitting, number16, number64, Halves, LengthBytes, CountBytes, decoded, lengthsTold, kKept, hKept, idLenTold, countTold, idKept};
 
 // Where the single bytes stand.
 pub const MARK_AT: usize = 0;
@@ -30,6 +31,13 @@ pub const S_AT: usize = 17;
 pub const K_AT: usize = 19;
 
 pub const H_AT: usize = 90;
+
+// Where the session begins, which a beginning and a fault keep: the identifier's length, the count, the identifier.
+pub const SESSION_AT: usize = 154;
+
+pub const COUNT_AT: usize = 156;
+
+pub const ID_AT: usize = 164;
 
 // The numbers of the stages.
 pub const STARTED: u8 = 0;
@@ -187,7 +195,49 @@ pub fn h_in(b: &[u8]) -> &[u8]
     ensures { λ r. ⌜ now r ≡ hKept (now (b .entry)) ⌝ }
 {
     if b.len() == limits::EXCHANGE_SIZE {
-        return &b[H_AT..];
+        return &b[H_AT..SESSION_AT];
+    }
+    &b[0..0]
+}
+
+// The length of the session identifier; 0 in bytes of another size.
+pub fn id_len_in(b: &[u8]) -> usize
+    ensures { λ r. ⌜ (r ≡ idLenTold (now (b .entry))) × (length (now (b .entry)) ≡ exchangeSize → Halves (now (b .entry)) 154) ⌝ }
+{
+    if b.len() != limits::EXCHANGE_SIZE {
+        return 0;
+    }
+    u16_at(b, SESSION_AT)
+}
+
+// The number in the eight bytes from `at` on.
+fn u64_at(b: &[u8], at: usize) -> u64
+    requires { ⌜ at + 8 ≤ length (now b) ⌝ }
+    ensures { λ r. ⌜ (r ≡ number64 (now (b .entry)) at) × CountBytes (now (b .entry)) at ⌝ }
+{
+    let a = u16_at(b, at);
+    let c = u16_at(b, at + 2);
+    let d = u16_at(b, at + 4);
+    let e = u16_at(b, at + 6);
+    ((a * 65536 + c) as u64) * 4294967296 + ((d * 65536 + e) as u64)
+}
+
+// How many exchanges were completed; 0 in bytes of another size.
+pub fn count_in(b: &[u8]) -> u64
+    ensures { λ r. ⌜ (r ≡ countTold (now (b .entry))) × (length (now (b .entry)) ≡ exchangeSize → CountBytes (now (b .entry)) 156) ⌝ }
+{
+    if b.len() != limits::EXCHANGE_SIZE {
+        return 0;
+    }
+    u64_at(b, COUNT_AT)
+}
+
+// The session identifier among the bytes, zeros after it; empty in bytes of another size.
+pub fn id_in(b: &[u8]) -> &[u8]
+    ensures { λ r. ⌜ now r ≡ idKept (now (b .entry)) ⌝ }
+{
+    if b.len() == limits::EXCHANGE_SIZE {
+        return &b[ID_AT..];
     }
     &b[0..0]
 }

@@ -108,7 +108,7 @@ fn move_sixteen(room: &mut [u8], from: usize, to: usize)
 }
 
 // Moves the len bytes at `at` up by so many, from the end on: sixteen at a time, then the rest.
-fn move_up(room: &mut [u8], at: usize, len: usize, by: usize)
+pub fn move_up(room: &mut [u8], at: usize, len: usize, by: usize)
     requires { ⌜ at + by + len ≤ length (now room) ⌝ }
     ensures { λ _. ⌜ now (room .exit) ≡ over (now (room .entry)) (at + by) (take len (drop at (now (room .entry)))) ⌝ }
 {

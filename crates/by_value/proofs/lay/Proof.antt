@@ -6,12 +6,12 @@ use Rattle.by_value.specs.ByValue.{withExchange}
 use Rattle.by_value.proofs.lay.Statement.{statement}
 use Rattle.by_value.proofs.lay.Tie as tie
 
-fits-two-requires : tie.Need-fits-two-requires
-fits-two-requires c κs = search needs
+fits-bytes-requires : tie.Need-fits-bytes-requires
+fits-bytes-requires c κs = search needs
 
 returns : tie.Need-returns
 unfolding withExchange
-returns c = let f = fails (c .before .fits-two .ensures) (c .if1 .taken) in (sym f, rw f)
+returns c = let f = fails (c .before .fits-bytes .ensures) (c .if1 .taken) in (sym f, rw f)
 
 store-requires : tie.Need-store-requires
 store-requires c κs = search needs
@@ -22,8 +22,8 @@ same-length c = search needs
 returns-2 : tie.Need-returns-2
 unfolding withExchange
 returns-2 c =
-    let f = holds (c .before .before .before .before .before .fits-two .ensures) (c .before .before .before .before .if1 .left) in
+    let f = holds (c .before .before .before .before .before .fits-bytes .ensures) (c .before .before .before .before .if1 .left) in
     (sym f, rw f (c .before .before .store .ensures))
 
 pub lay-spec : {M : Type 1} → statement M
-lay-spec = tie.close (tie.spec fits-two-requires returns store-requires same-length returns-2)
+lay-spec = tie.close (tie.spec fits-bytes-requires returns store-requires same-length returns-2)

@@ -22,7 +22,7 @@ step-number-requires : tie.Need-step-number-requires
 step-number-requires c κs = search needs
 
 sizes : (c : tie.Start) → Sized (c .args .e)
-sizes c = (search needs, search needs)
+sizes c = (search needs, search needs, search needs)
 
 returns-2 : tie.Need-returns-2
 returns-2 c =

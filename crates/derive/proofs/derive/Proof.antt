@@ -25,7 +25,7 @@ same-length : tie.Need-same-length
 same-length c = search needs
 
 sizes : (c : tie.Start) → Sized (c .args .e)
-sizes c = (search needs, search needs)
+sizes c = (search needs, search needs, search needs)
 
 returns-2 : tie.Need-returns-2
 returns-2 c =

@@ -6,10 +6,10 @@ use native.Mathlib.Omega.{arith}
 use denote.Ref.{now}
 use Rattle.limits.proofs.BoolLaws.{holds, fails}
 use Rattle.methods.specs.Rows.{rowOf}
-use Rattle.exchange.specs.Record.{lengthsFit, kFits}
+use Rattle.exchange.specs.Record.{lengthsFit, kFits, sessionFits}
 use Rattle.stored.specs.Stored.{decoded}
 use Rattle.stored.proofs.StoredLaws.{method-read, fits-known}
-use Rattle.due.proofs.FitLaws.{record-low, record-high, record-lengths, record-k, lens-read, k-read, k-size}
+use Rattle.due.proofs.FitLaws.{record-low, record-high, record-lengths, record-k, record-session, lens-read, k-read, k-size}
 use Rattle.due.proofs.record_fits.Statement.{statement}
 use Rattle.due.proofs.record_fits.Tie as tie
 
@@ -51,15 +51,29 @@ k-fits-requires c κs = k-size (now (c .before .before .before .before .before .
 
 returns-4 : tie.Need-returns-4
 returns-4 c =
-    let b = now (c .before .before .before .before .before .before .before .before .before .args .b) in
-    let f = c .before .before .before .before .before .before .before .before .before .pre .0 in
-    let st = c .before .before .before .before .before .before .before .before .before .pre .1 in
-    let me = method-read b _ (c .before .before .before .before .before .before .before .byte-in .ensures) in
-    let lf = c .before .before .before .lengths-fit .ensures ∙ (λ i. lengthsFit (rowOf (me i)) (st i) (lens-read b f _ (c .before .before .before .before .lengths-in .ensures .0) i)) in (
-      c .k-fits .ensures
-          ∙ (λ i. kFits (rowOf (me i)) (st i) (k-read b f _ (c .before .k-in .ensures) i))
-          ∙ record-k (decoded b) (omega (arith, me, c .before .before .before .before .before .before .if1 .left)) (omega (arith, me, c .before .before .before .before .before .if2 .left)) (holds lf (c .before .before .if3 .left)),
-      (λ _. c .before .before .before .before .lengths-in .ensures .1 (fits-known b f .0)),
+    let b = now (c .before .before .before .before .before .before .before .before .before .before .args .b) in
+    let f = c .before .before .before .before .before .before .before .before .before .before .pre .0 in
+    let st = c .before .before .before .before .before .before .before .before .before .before .pre .1 in
+    let me = method-read b _ (c .before .before .before .before .before .before .before .before .byte-in .ensures) in
+    let lf = c .before .before .before .before .lengths-fit .ensures ∙ (λ i. lengthsFit (rowOf (me i)) (st i) (lens-read b f _ (c .before .before .before .before .before .lengths-in .ensures .0) i)) in
+    let kf = c .before .k-fits .ensures ∙ (λ i. kFits (rowOf (me i)) (st i) (k-read b f _ (c .before .before .k-in .ensures) i)) in
+    (record-k (decoded b) (omega (arith, me, c .before .before .before .before .before .before .before .if1 .left)) (omega (arith, me, c .before .before .before .before .before .before .if2 .left)) (holds lf (c .before .before .before .if3 .left)) (fails kf (c .if4 .taken)), (λ (h : false ≡ true). absurd (false≢true h)))
+
+session-fits-requires : tie.Need-session-fits-requires
+session-fits-requires c κs = search needs
+
+returns-5 : tie.Need-returns-5
+returns-5 c =
+    let b = now (c .before .before .before .before .before .before .before .before .before .before .before .args .b) in
+    let f = c .before .before .before .before .before .before .before .before .before .before .before .pre .0 in
+    let st = c .before .before .before .before .before .before .before .before .before .before .before .pre .1 in
+    let me = method-read b _ (c .before .before .before .before .before .before .before .before .before .byte-in .ensures) in
+    let lf = c .before .before .before .before .before .lengths-fit .ensures ∙ (λ i. lengthsFit (rowOf (me i)) (st i) (lens-read b f _ (c .before .before .before .before .before .before .lengths-in .ensures .0) i)) in
+    let kf = c .before .before .k-fits .ensures ∙ (λ i. kFits (rowOf (me i)) (st i) (k-read b f _ (c .before .before .before .k-in .ensures) i)) in (
+      c .session-fits .ensures .0
+          ∙ (λ i. sessionFits (st i) (decoded b .session))
+          ∙ record-session (decoded b) (omega (arith, me, c .before .before .before .before .before .before .before .before .if1 .left)) (omega (arith, me, c .before .before .before .before .before .before .before .if2 .left)) (holds lf (c .before .before .before .before .if3 .left)) (holds kf (c .before .if4 .left)),
+      (λ _. record { lens = c .before .before .before .before .before .before .lengths-in .ensures .1 (fits-known b f .0); len = c .session-fits .ensures .1; count = c .session-fits .ensures .2 }),
     )
 
 pub record-fits-spec : {M : Type 1} → statement M
@@ -74,4 +88,6 @@ record-fits-spec =
     returns-3
     k-in-requires
     k-fits-requires
-    returns-4)
+    returns-4
+    session-fits-requires
+    returns-5)

@@ -2,7 +2,6 @@
 use borrow.Author.Needs.{needs}
 use Prim.Native.Nat.{ℕ}
 use mathlib.Core.Path.{_≡_, refl}
-use native.Mathlib.Omega.{arith}
 use denote.Ref.{now}
 use Rattle.limits.proofs.BoolLaws.{holds, fails}
 use Rattle.stored.specs.Stored.{decoded}
@@ -17,14 +16,14 @@ returns : tie.Need-returns
 returns c =
     let b = now (c .before .before .before .args .b) in
     let a = c .before .before .before .args in
-    (not-due-on b (a .n) (a .room) (a .fed) (fails (c .before .is-due .ensures .0) (c .if1 .taken)), (λ (h : _≡_ {A = ℕ} 1 0). let w : ⊥ = omega arith in absurd w))
+    (not-due-on b (a .n) (a .room) (a .fed) (fails (c .before .is-due .ensures .0) (c .if1 .taken)), (λ (h : _≡_ {A = ℕ} 1 1 → ⊥). absurd (h refl)))
 
 returns-2 : tie.Need-returns-2
 returns-2 c =
     let b = now (c .before .before .before .before .args .b) in
     let a = c .before .before .before .before .args in
     let d = due-fits b (a .n) (holds (c .before .before .is-due .ensures .0) (c .before .if1 .left)) in
-    (number-on b (d .0) (a .n) (a .room) (a .fed) 3 (number-room (a .n) (decoded b) (a .room) (a .fed) (d .1) (c .if2 .taken)), (λ (h : _≡_ {A = ℕ} 3 0). let w : ⊥ = omega arith in absurd w))
+    (number-on b (d .0) (a .n) (a .room) (a .fed) 3 (number-room (a .n) (decoded b) (a .room) (a .fed) (d .1) (c .if2 .taken)), (λ _. c .before .before .is-due .ensures .1 (holds refl (c .before .if1 .left))))
 
 returns-3 : tie.Need-returns-3
 returns-3 c =

@@ -12,13 +12,13 @@ use Rattle.keys.proofs.derive_cause.Tie as tie
 
 -- the exchange is complete
 done : (c : tie.Else1) → (fits (now (c .before .before .before .args .ex)) && completed (decoded (now (c .before .before .before .args .ex)))) ≡ true
-done c = holds (c .before .is-complete .ensures) (c .if1 .left)
+done c = holds (c .before .is-complete .ensures .0) (c .if1 .left)
 
 is-complete-requires : tie.Need-is-complete-requires
 is-complete-requires c κs = search needs
 
 returns : tie.Need-returns
-returns c = let a = c .before .before .before .args in incomplete (now (a .ex)) (a .letter) (a .len) (a .out) (fails (c .before .is-complete .ensures) (c .if1 .taken))
+returns c = let a = c .before .before .before .args in incomplete (now (a .ex)) (a .letter) (a .len) (a .out) (fails (c .before .is-complete .ensures .0) (c .if1 .taken))
 
 in-range-requires : tie.Need-in-range-requires
 in-range-requires c κs = search needs

@@ -40,7 +40,7 @@ returns c =
     let r = now (a .room) in
     let q = ownC (now (a .c)) (length (now (a .out))) in
     let m = number-lent b r q [] _ _ _ _ (c .before .before .before .before .before .before .before .before .step-number .ensures .0) refl (c .before .before .before .before .before .before .before .before .before .before .before .byte-in .ensures) (c .before .before .before .before .before .before .before .before .before .before .own-c-cause .ensures) in
-    call-refused b r q (now (a .out) ∷ []) _ m (c .before .before .before .before .before .before .before .if1 .taken) _ _ _ (c .before .before .before .before .refuse .ensures .0) (c .before .before .before .before .refuse .ensures .1) (c .before .before .before .before .refuse .ensures .2)
+    call-refused b r q (now (a .out) ∷ []) _ m (c .before .before .before .before .before .before .before .before .step-number .ensures .1) (c .before .before .before .before .before .before .before .if1 .taken) _ _ _ (c .before .before .before .before .refuse .ensures .0) (c .before .before .before .before .refuse .ensures .1) (c .before .before .before .before .refuse .ensures .2)
 
 with-c-requires : tie.Need-with-c-requires
 with-c-requires c κs = search needs

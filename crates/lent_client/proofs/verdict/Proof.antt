@@ -12,10 +12,20 @@ use Rattle.wire.specs.Strings.{numberAt}
 use Rattle.buffers.specs.Bytes.{laid}
 use Rattle.lent.proofs.RoomLaws.{k-laid, k-length}
 use Rattle.stored.specs.Stored.{decoded}
-use Rattle.lent.proofs.LentLaws.{number-lent, call-refused, call-accepted, opened, completed}
+use Rattle.lent.proofs.LentLaws.{number-lent, call-refused, call-accepted, Opened, opened, completed}
 use Rattle.lent_client.proofs.ClientLaws.{verdict-fits, verdict-tells, verdict-taken, verdict-room}
 use Rattle.lent_client.proofs.verdict.Statement.{statement}
 use Rattle.lent_client.proofs.verdict.Tie as tie
+
+-- where the step is accepted: what its number tells of the bytes
+accepts : (c : tie.Else1) → let a = c .before .before .before .before .before .before .before .args in Opened (now (a .ex)) (now (a .room)) (verdict (a .signature) (a .host-key) (length (now (a .k-out))))
+unfolding fedCause
+accepts c =
+    let a = c .before .before .before .before .before .before .before .args in
+    let b = now (a .ex) in
+    let r = now (a .room) in
+    let q = verdict (a .signature) (a .host-key) (length (now (a .k-out))) in
+    opened b r q _ (number-lent b r q [] _ _ _ _ (c .before .step-number .ensures .0) refl refl (c .before .before .before .verdict-cause .ensures)) (c .before .step-number .ensures .1) (c .if1 .left)
 
 verdict-cause-requires : tie.Need-verdict-cause-requires
 verdict-cause-requires c κs = search needs
@@ -40,10 +50,10 @@ returns c =
     let r = now (a .room) in
     let q = verdict (a .signature) (a .host-key) (length (now (a .k-out))) in
     let m = number-lent b r q [] _ _ _ _ (c .before .before .before .before .before .before .before .before .step-number .ensures .0) refl refl (c .before .before .before .before .before .before .before .before .before .before .verdict-cause .ensures) in
-    call-refused b r q (now (a .k-out) ∷ []) _ m (c .before .before .before .before .before .before .before .if1 .taken) _ _ _ (c .before .before .before .before .refuse .ensures .0) (c .before .before .before .before .refuse .ensures .1) (c .before .before .before .before .refuse .ensures .2)
+    call-refused b r q (now (a .k-out) ∷ []) _ m (c .before .before .before .before .before .before .before .before .step-number .ensures .1) (c .before .before .before .before .before .before .before .if1 .taken) _ _ _ (c .before .before .before .before .refuse .ensures .0) (c .before .before .before .before .refuse .ensures .1) (c .before .before .before .before .refuse .ensures .2)
 
 finish-requires : tie.Need-finish-requires
-finish-requires c κs = search needs
+finish-requires c κs = accepts (c .before .before) .count-open
 
 same-length-3 : tie.Need-same-length-3
 same-length-3 c = search needs
@@ -52,14 +62,12 @@ same-length-4 : tie.Need-same-length-4
 same-length-4 c = search needs
 
 returns-2 : tie.Need-returns-2
-unfolding fedCause
 returns-2 c =
     let a = c .before .before .before .before .before .before .before .before .before .before .before .before .before .before .args in
     let b = now (a .ex) in
     let r = now (a .room) in
     let q = verdict (a .signature) (a .host-key) (length (now (a .k-out))) in
-    let m = number-lent b r q [] _ _ _ _ (c .before .before .before .before .before .before .before .before .step-number .ensures .0) refl refl (c .before .before .before .before .before .before .before .before .before .before .verdict-cause .ensures) in
-    let o = opened b r q _ m (c .before .before .before .before .before .before .before .before .step-number .ensures .1) (c .before .before .before .before .before .before .before .if1 .left) in
+    let o = accepts (c .before .before .before .before .before .before .before) in
     let e = decoded b in
     let z = o .accepts in
     call-accepted b r q (now (a .k-out) ∷ []) (o .fitting) z _ _ _ _

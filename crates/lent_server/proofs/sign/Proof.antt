@@ -84,7 +84,7 @@ returns c =
     let r = now (a .room) in
     let m = number-lent b r (sign (now (a .signature)) (length (now (a .out))) (length (now (a .k-out)))) [] _ _ _ _ (c .before .step-number .ensures .0) refl refl (c .before .before .before .sign-cause .ensures) in
     let f = sign-stays b r (now (a .signature)) (now (a .out)) (now (a .k-out)) _ m in
-    call-refused b r (sign (now (a .signature)) (length (now (a .out))) (length (now (a .k-out)))) (now (a .out) ∷ now (a .k-out) ∷ []) _ m (c .if1 .taken) _ _ _ refl (refused-stays _ b b _ f) (refused-stays _ b r _ f)
+    call-refused b r (sign (now (a .signature)) (length (now (a .out))) (length (now (a .k-out)))) (now (a .out) ∷ now (a .k-out) ∷ []) _ m (c .before .step-number .ensures .1) (c .if1 .taken) _ _ _ refl (refused-stays _ b b _ f) (refused-stays _ b r _ f)
 
 lengths-in-requires : tie.Need-lengths-in-requires
 lengths-in-requires c κs = search needs
@@ -124,7 +124,7 @@ put-reply-requires c κs =
     omega (arith, h .ks-most, h .s-most, h .g-most, h .out-least)
 
 finish-requires : tie.Need-finish-requires
-finish-requires c κs = search needs
+finish-requires c κs = accepts (c .before .before .before .before .before .before .before .before .before .before .before .before .before) .count-open
 
 add-t16-2 : tie.Need-add-t16-2
 add-t16-2 c =

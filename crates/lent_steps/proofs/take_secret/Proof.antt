@@ -97,7 +97,7 @@ returns c =
     let r = now (a .room) in
     let q = secret (a .cl) (now (a .x)) (a .kem) (now (a .k-pq)) (now (a .ks)) (now (a .s)) in
     let m = number-lent b r q [] _ _ _ _ (c .before .before .before .before .before .before .before .before .step-number .ensures .0) (c .before .before .before .before .before .before .before .before .before .before .before .before .before .byte-in .ensures) (c .before .before .before .before .before .before .before .before .before .before .before .byte-in2 .ensures) (c .before .before .before .before .before .before .before .before .before .before .secret-cause .ensures) in
-    call-refused b r q ([]) _ m (c .before .before .before .before .before .before .before .if1 .taken) _ _ _ (c .before .before .before .before .refuse .ensures .0) (c .before .before .before .before .refuse .ensures .1) (c .before .before .before .before .refuse .ensures .2)
+    call-refused b r q ([]) _ m (c .before .before .before .before .before .before .before .before .step-number .ensures .1) (c .before .before .before .before .before .before .before .if1 .taken) _ _ _ (c .before .before .before .before .refuse .ensures .0) (c .before .before .before .before .refuse .ensures .1) (c .before .before .before .before .refuse .ensures .2)
 
 k-by-method-requires : tie.Need-k-by-method-requires
 k-by-method-requires c κs = (ap methodOk (method-is c) ∙ fit c .method-ok, fit c .hash-fits)

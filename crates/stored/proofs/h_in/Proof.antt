@@ -1,10 +1,9 @@
 -- `stored::h_in` meets its contract. Assumes nothing.
 use borrow.Author.Needs.{needs}
-use mathlib.Core.Path.{_∙_}
 use mathlib.Core.List.{[]}
-use lib.ListN.{drop}
+use lib.ListN.{take, drop}
 use denote.Ref.{now}
-use Rattle.buffers.proofs.ByteLaws.{tail-part}
+use Rattle.limits.specs.Limits.{hSize}
 use Rattle.stored.proofs.StoredLaws.{size-taken, size-left}
 use Rattle.stored.proofs.h_in.Statement.{statement}
 use Rattle.stored.proofs.h_in.Tie as tie
@@ -19,7 +18,7 @@ part-result-end : tie.Need-part-result-end
 part-result-end c = search needs
 
 returns : tie.Need-returns
-returns c = tail-part (now (c .before .before .args .b)) 90 ∙ size-taken (now (c .before .before .args .b)) [] (drop 90 (now (c .before .before .args .b))) (c .before .if1 .taken)
+returns c = size-taken (now (c .before .before .args .b)) [] (take hSize (drop 90 (now (c .before .before .args .b)))) (c .before .if1 .taken)
 
 sub-result-2 : tie.Need-sub-result-2
 sub-result-2 c = search needs
@@ -31,7 +30,7 @@ part-result-end-2 : tie.Need-part-result-end-2
 part-result-end-2 c = search needs
 
 returns-2 : tie.Need-returns-2
-returns-2 c = size-left (now (c .before .before .args .b)) [] (drop 90 (now (c .before .before .args .b))) (c .before .if1 .left)
+returns-2 c = size-left (now (c .before .before .args .b)) [] (take hSize (drop 90 (now (c .before .before .args .b)))) (c .before .if1 .left)
 
 pub h-in-spec : {M : Type 1} → statement M
 h-in-spec =

@@ -29,27 +29,32 @@ put-bytes-requires-2 c κs = search needs
 lengths-in-requires : tie.Need-lengths-in-requires
 lengths-in-requires c κs = search needs
 
+load-session-requires : tie.Need-load-session-requires
+load-session-requires c κs = search needs
+
 returns : tie.Need-returns
 returns c =
-    loaded-blank (now (c .before .before .before .before .before .before .before .before .before .before .before .args .b)) _ _ _ (c .before .lengths-in .ensures .0)
-    (c .before .before .before .before .before .before .before .put-bytes .ensures ∙ ap (laid (zeros kSize) 0) (c .before .before .before .before .before .before .before .before .k-in .ensures))
-    (c .before .before .before .put-bytes2 .ensures ∙ ap (laid (zeros hSize) 0) (c .before .before .before .before .h-in .ensures))
+    loaded-blank (now (c .before .before .before .before .before .before .before .before .before .before .before .before .args .b)) _ _ _ _ (c .before .before .lengths-in .ensures .0)
+    (c .before .before .before .before .before .before .before .before .put-bytes .ensures ∙ ap (laid (zeros kSize) 0) (c .before .before .before .before .before .before .before .before .before .k-in .ensures))
+    (c .before .before .before .before .put-bytes2 .ensures ∙ ap (laid (zeros hSize) 0) (c .before .before .before .before .before .h-in .ensures))
+    (c .before .load-session .ensures)
     (c .if1 .taken)
 
 stage-in-requires : tie.Need-stage-in-requires
 stage-in-requires c κs = search needs
 
-shared-slice-read-t19 : tie.Need-shared-slice-read-t19
-shared-slice-read-t19 c = search needs
+shared-slice-read-t20 : tie.Need-shared-slice-read-t20
+shared-slice-read-t20 c = search needs
 
-shared-slice-read-t21 : tie.Need-shared-slice-read-t21
-shared-slice-read-t21 c = search needs
+shared-slice-read-t22 : tie.Need-shared-slice-read-t22
+shared-slice-read-t22 c = search needs
 
 returns-2 : tie.Need-returns-2
 returns-2 c =
-    loaded-whole (now (c .before .before .before .before .before .before .before .before .before .before .before .before .before .before .args .b)) _ _ _ (c .before .before .before .before .lengths-in .ensures .0)
-    (c .before .before .before .before .before .before .before .before .before .before .put-bytes .ensures ∙ ap (laid (zeros kSize) 0) (c .before .before .before .before .before .before .before .before .before .before .before .k-in .ensures))
-    (c .before .before .before .before .before .before .put-bytes2 .ensures ∙ ap (laid (zeros hSize) 0) (c .before .before .before .before .before .before .before .h-in .ensures))
+    loaded-whole (now (c .before .before .before .before .before .before .before .before .before .before .before .before .before .before .before .args .b)) _ _ _ _ (c .before .before .before .before .before .lengths-in .ensures .0)
+    (c .before .before .before .before .before .before .before .before .before .before .before .put-bytes .ensures ∙ ap (laid (zeros kSize) 0) (c .before .before .before .before .before .before .before .before .before .before .before .before .k-in .ensures))
+    (c .before .before .before .before .before .before .before .put-bytes2 .ensures ∙ ap (laid (zeros hSize) 0) (c .before .before .before .before .before .before .before .before .h-in .ensures))
+    (c .before .before .before .before .load-session .ensures)
     _ (c .before .before .before .if1 .left) (c .before .before .stage-in .ensures)
 
 pub load-spec : {M : Type 1} → statement M
@@ -63,8 +68,9 @@ load-spec =
     h-in-requires
     put-bytes-requires-2
     lengths-in-requires
+    load-session-requires
     returns
     stage-in-requires
-    shared-slice-read-t19
-    shared-slice-read-t21
+    shared-slice-read-t20
+    shared-slice-read-t22
     returns-2)
