@@ -121,7 +121,7 @@ struct link {
     bool exchanging; /* the peer's KEXINIT came, or is the first, and its NEWKEYS did not: faults are the exchange's */
     bool held;       /* own KEXINIT is out and own NEWKEYS is not: no data may go out */
     uint32_t kexinit;     /* number of own KEXINIT's packet */
-    bool may_leave, left; /* the peer may disconnect by application or close, which is no failure; and it did */
+    bool may_leave, left; /* the peer may disconnect by application, which is no failure; and it did */
     bool silent;     /* DISCONNECT went out: nothing more may */
     struct seal coming, going;
     uint8_t in[PACKET_MOST];

@@ -180,13 +180,6 @@ void link_close(struct link *l)
     l->fd = -1;
 }
 
-/* The connection is over, which is no failure where the peer may leave. */
-static bool gone(struct link *l, const char *what, const char *failure)
-{
-    l->left = l->may_leave;
-    return !l->left && trouble("%s%s", what, failure);
-}
-
 /* ---- what comes in */
 
 /* Has at least n bytes waiting, n up to the buffer's length. */
@@ -200,8 +193,8 @@ static bool need(struct link *l, size_t n)
         const char *failure = ready(l, POLLIN);
         if (failure != NULL) return trouble("receiving: %s", failure);
         ssize_t got = recv(l->fd, l->in + l->end, sizeof l->in - l->end, 0);
-        if (got == 0) return gone(l, "the peer closed the connection", "");
-        if (got < 0 && !again()) return gone(l, "receiving: ", strerror(errno));
+        if (got == 0) return trouble("the peer closed the connection");
+        if (got < 0 && !again()) return trouble("receiving: %s", strerror(errno));
         if (got > 0) l->end += (size_t)got;
     }
     return true;
@@ -342,7 +335,8 @@ bool link_send(struct link *l, const uint8_t *payload, size_t len)
     }
     if (payload[0] == MESSAGE_NEWKEYS) l->held = false;
     const char *failure = send_packet(l, payload, len);
-    return failure == NULL || gone(l, "sending: ", failure);
+    if (l->may_leave) return true; /* where it has left, its last words say so: they are still to be read */
+    return failure == NULL || trouble("sending: %s", failure);
 }
 
 bool link_unimplemented(struct link *l)

@@ -515,12 +515,24 @@ def between_data(p, rng):
     say(p, *payloads)
 
 
+def no_good_bye(p, rng):
+    """All data went back and dock has closed the channel: only a DISCONNECT of this side, by its application, is a good end."""
+    begun(p)
+    logged_in(p)
+    say(p, bytes([EOF]) + u32(0))
+    need([p.read()[0] for _ in range(3)] == [EOF, ASKED, CLOSE], "no end")
+    last, said = rng.case([((), "closed"), ((disconnect(2, b"no"),), "reason 2"), ((kexinit(KEX, b"ssh-ed25519"),), "closed")])
+    p.must = QUIET, said
+    say(p, *last)
+
+
 # how often, name, play, dock's further options
 HOSTILE = [
     (18, "not due", not_due), (12, "KEXINIT of rubbish", rubbish_kexinit), (6, "another host key", other_host_key), (5, "message changed", changed_message),
     (16, "another seal", other_seal), (4, "goes away", goes_away), (5, "no KEXINIT", no_kexinit, "--rekey", 1),
-    (18, "between data", between_data, "--rekey", 1),
+    (18, "between data", between_data, "--rekey", 1), (3, "no good-bye", no_good_bye),
 ]
+ONLY = {other_host_key: False, no_good_bye: True}  # whether dock must be the server
 
 
 def hostile_peers(programs, dock, seed):
@@ -528,9 +540,9 @@ def hostile_peers(programs, dock, seed):
     with socket.create_server(("127.0.0.1", 0), backlog=16) as listener:
         listener.settimeout(60)
         for (times, name, play, *more), serves in itertools.product(HOSTILE, (False, True)):
-            if serves and play is other_host_key:
+            if ONLY.get(play, serves) != serves:
                 continue
-            options = *options_of(programs, play is between_data, serves), *more
+            options = *options_of(programs, play in (between_data, no_good_bye), serves), *more
             for i in range(times):
                 rng = Turn(f"{seed} {'client' if serves else 'server'} {name}", i)
                 try:
