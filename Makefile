@@ -150,9 +150,10 @@ targets: cross script
 	@sh host/lib.sh $(TARGETS)
 	python3 tests/targets.py build/host/script build/host/answers
 
-# Longer runs: exchanges with a real sshd, and the library against the plain implementation, with another seed each time.
+# Longer runs: exchanges with a real sshd, and many in one connection with sshd and ssh; and the library against the plain implementation, with another
+# seed each time.
 soak: host
-	python3 tests/live/soak.py --dock build/dock --count 2000
+	python3 tests/live/soak.py --dock build/dock --count 2000 --later 2000
 	$(RUST)/differ --seed $$(date +%s) --lists 20000000 --rounds 4000000 --hashes 4000000 --progress
 	$(RUST_SMALL)/differ --seed $$(date +%s) --lists 2000000 --rounds 400000 --hashes 400000 --progress
 

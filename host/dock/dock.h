@@ -1,6 +1,6 @@
-/* dock: one SSH key exchange over a socket, as client or as server, and the first service behind it. The core (castulfrisa.h) reads and writes
-   the messages, builds the hash input, hashes it and derives the keys; libcrypto does curves, KEMs, signatures, ciphers and MACs; here are the
-   sockets, packets and files around them. */
+/* dock: one SSH connection over a socket, as client or as server: its first key exchange, those that follow it, and a service behind them. The core
+   (castulfrisa.h) reads and writes the messages, builds the hash input, hashes it and derives the keys; libcrypto does curves, KEMs, signatures,
+   ciphers and MACs; here are the sockets, packets and files around them. */
 #ifndef DOCK_H
 #define DOCK_H
 
@@ -15,7 +15,7 @@
 
 typedef struct { const uint8_t *at; size_t len; } span; /* bytes that someone else keeps */
 
-/* RFC 4250, 4.1.2 */
+/* RFC 4250, 4.1.2: those of the transport; session.c has others */
 enum message {
     MESSAGE_DISCONNECT = 1,
     MESSAGE_IGNORE = 2,
@@ -24,13 +24,14 @@ enum message {
     MESSAGE_SERVICE_REQUEST = 5,
     MESSAGE_SERVICE_ACCEPT = 6,
     MESSAGE_KEXINIT = 20,
-    MESSAGE_NEWKEYS = 21
+    MESSAGE_NEWKEYS = 21,
+    MESSAGES_OF_TRANSPORT = 50 /* those of the exchange's methods end ahead of it */
 };
 
 /* RFC 4250, 4.2.2: the reasons of a DISCONNECT that goes out */
 enum reason {
     REASON_PROTOCOL_ERROR = 2,      /* a sealed packet that is whole and not due */
-    REASON_KEY_EXCHANGE_FAILED = 3, /* all faults up to the peer's NEWKEYS */
+    REASON_KEY_EXCHANGE_FAILED = 3, /* all faults up to the peer's NEWKEYS, and again from its next KEXINIT on */
     REASON_MAC_ERROR = 5,           /* a sealed packet that was changed, or lost its place */
     REASON_NO_SERVICE = 7,
     REASON_BY_APPLICATION = 11 /* no fault: dock goes no further */
@@ -68,22 +69,27 @@ struct mac {
 
 struct seal_keys { uint8_t iv[SEAL_BLOCK], cipher[SEAL_KEY_MOST], mac[SEAL_TAG_MOST]; };
 
-struct seal {
+struct suite {
     const struct cipher *cipher; /* as chosen */
     const struct mac *mac;
     EVP_CIPHER_CTX *crypt; /* these two keep the keys; NULL until there are any */
     EVP_MAC_CTX *tag;
-    bool on;           /* NEWKEYS has gone by: what follows is sealed */
-    uint32_t sequence; /* number of the next packet, sealed or not */
+};
+
+struct seal {
+    struct suite now, next; /* the next one waits for NEWKEYS */
+    bool on;                /* NEWKEYS has gone by: what follows is sealed */
+    uint32_t sequence;      /* number of the next packet, sealed or not; it goes on over NEWKEYS, but in a strict key exchange */
+    uint32_t packets;       /* under the keys of now */
 };
 
 const struct cipher *cipher_named(span name);
 const struct mac *mac_named(span name);
 
-/* Takes the keys, which stay the caller's to wipe; the seal is not on yet. */
+/* Takes the keys of the next suite, which stay the caller's to wipe; the present one seals on. */
 bool seal_take_keys(struct seal *s, const struct seal_keys *keys);
 
-/* Behind NEWKEYS. In a strict key exchange packets are counted anew. */
+/* Behind NEWKEYS: the next suite, and libcrypto wipes the keys of the one before it. In a strict key exchange packets are counted anew. */
 void seal_begin(struct seal *s, bool strict);
 
 /* What a packet's length counts towards the block: with the four bytes that it stands in where those are encrypted or nothing is. */
@@ -111,8 +117,12 @@ struct link {
     int timeout; /* seconds that a connection may take */
     long long deadline;
     bool show;
-    bool strict; /* both sides named strict key exchange: up to NEWKEYS no packet is passed over, and it begins the count anew */
-    bool silent; /* DISCONNECT went out: nothing more may */
+    bool strict; /* both sides named strict key exchange: up to the first NEWKEYS no packet is passed over, and each begins the count anew */
+    bool exchanging; /* the peer's KEXINIT came, or is the first, and its NEWKEYS did not: faults are the exchange's */
+    bool held;       /* own KEXINIT is out and own NEWKEYS is not: no data may go out */
+    uint32_t kexinit;     /* number of own KEXINIT's packet */
+    bool may_leave, left; /* the peer may disconnect by application, which is no failure; and it did */
+    bool silent;     /* DISCONNECT went out: nothing more may */
     struct seal coming, going;
     uint8_t in[PACKET_MOST];
     size_t begin, end; /* what has come in and is not used up */
@@ -135,6 +145,9 @@ bool link_send(struct link *l, const uint8_t *payload, size_t len);
 
 /* The payload of the next packet that is not IGNORE, DEBUG or UNIMPLEMENTED, until the next call; DISCONNECT is a failure. */
 bool link_receive(struct link *l, span *payload);
+
+/* UNIMPLEMENTED, for the packet that came last. */
+bool link_unimplemented(struct link *l);
 
 /* DISCONNECT, after which nothing more goes out; sealed behind own NEWKEYS, as all else. */
 void link_disconnect(struct link *l, enum reason reason, const char *text);
@@ -200,6 +213,15 @@ span part_of(span whole, castulfrisa_part p);
 /* Parts of a blob, taken from its front. */
 bool take_string(span *rest, span *body);
 bool take_positive(span *rest, span *body); /* an mpint above 0 */
+bool take_number(span *rest, uint32_t *n);
+bool take_yes(span *rest, bool *yes);
+
+/* A blob, or a payload, put together from its front; what does not fit is left out and told. */
+struct blob { uint8_t *at; size_t room, len; bool short_of_room; };
+void put_byte(struct blob *b, uint8_t byte);
+void put_number(struct blob *b, uint32_t n);
+void put_string(struct blob *b, const void *bytes, size_t len);
+void put_text(struct blob *b, const char *text);
 
 /* Keys from their parts; with an empty d, or seed, a public one. NULL where libcrypto refuses. */
 EVP_PKEY *ed25519_key(span public_key, span seed);
@@ -228,12 +250,39 @@ enum known known_host(FILE *file, const char *host, const char *port, const char
 /* "SHA256:" and the base64 of the digest, as ssh-keygen -l prints it. */
 bool fingerprint(span host_key, char out[FINGERPRINT]);
 
-/* ---- service.c: the first service behind NEWKEYS, and a DISCONNECT behind it */
+/* ---- kex.c: the exchanges of one connection */
 
-bool ask_service(struct link *l);
-bool grant_service(struct link *l);
+struct kex;
+struct settings;
+struct link *kex_link(struct kex *k);
 
-/* ---- kex.c: the exchange */
+/* The next message that is no exchange's. Where the peer asks for an exchange, it is made first. */
+bool kex_receive(struct kex *k, span *payload);
+
+/* Asks for an exchange and makes it. What is under way, up to the peer's KEXINIT, is taken by `take`, which sends no data. */
+bool kex_ask(struct kex *k, bool (*take)(void *of, span payload), void *of);
+
+/* How many later exchanges were asked for by us, or by the peer alone, and are complete; and how many messages came between KEXINITs. */
+struct asked { long own, peer, between; };
+struct asked kex_asked(const struct kex *k);
+
+/* The session identifier: H of the first exchange. */
+span kex_identifier(const struct kex *k);
+
+/* ---- service.c: the first service behind NEWKEYS */
+
+bool ask_service(struct kex *k);
+bool grant_service(struct kex *k);
+
+/* So many exchanges, where nothing else is to follow. */
+bool rekey_behind_service(struct kex *k, long rekeyings);
+
+/* ---- session.c: behind the service a login and one channel, on which data go there and back */
+
+bool session_as_client(struct kex *k, const struct settings *set);
+bool session_as_server(struct kex *k, const struct settings *set);
+
+/* ---- what is asked for on the command line */
 
 #define HOST_KEYS_MOST 8
 #define X_BEGINS_MOST 2
@@ -242,24 +291,30 @@ enum direction { TO_SERVER, TO_CLIENT };
 
 struct settings {
     const char *methods;   /* name-lists for the own KEXINIT */
+    const char *turns;     /* of the later exchanges each offers one of these alone, in turn; NULL: they offer the methods, too */
     const char *host_keys; /* a server's come from its keys */
     span ciphers[2], macs[2]; /* by direction */
     bool not_strict;          /* strict key exchange is not offered */
     bool no_service;          /* NEWKEYS is the end */
+    long rekeyings;           /* to ask for */
     bool show;
     int timeout;
 
     const char *host, *port; /* client */
     FILE *known_hosts;       /* NULL: not asked */
+    const char *user;        /* to log in as; NULL: the service is the end */
+    const struct host_key *login_key;
+    long peer_rekeyings; /* data flow until the peer has asked for so many */
 
     const struct host_key *keys; /* server */
     size_t key_count;
+    bool echo; /* anybody is let in, and a channel brings everything back; else the service is the end */
     uint8_t x_begins[X_BEGINS_MOST]; /* the ephemeral key is drawn until X begins so */
     size_t x_begins_len;
 };
 
-/* One exchange; the results on standard output, or false after a line on standard error. */
-bool exchange_as_client(const struct settings *set);
-bool exchange_as_server(const struct settings *set, int listener);
+/* One connection; the results on standard output, or false after a line on standard error. */
+bool connect_as_client(const struct settings *set);
+bool connect_as_server(const struct settings *set, int listener);
 
 #endif

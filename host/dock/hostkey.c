@@ -56,18 +56,43 @@ bool take_positive(span *rest, span *body)
     return true;
 }
 
-struct blob { uint8_t *at; size_t room, len; bool short_of_room; };
+bool take_number(span *rest, uint32_t *n)
+{
+    if (rest->len < 4) return false;
+    *n = (uint32_t)rest->at[0] << 24 | (uint32_t)rest->at[1] << 16 | (uint32_t)rest->at[2] << 8 | rest->at[3];
+    *rest = (span){rest->at + 4, rest->len - 4};
+    return true;
+}
 
-static void put_string(struct blob *b, const void *bytes, size_t len)
+bool take_yes(span *rest, bool *yes)
+{
+    if (rest->len == 0) return false;
+    *yes = rest->at[0] != 0;
+    *rest = (span){rest->at + 1, rest->len - 1};
+    return true;
+}
+
+void put_byte(struct blob *b, uint8_t byte)
+{
+    if (b->len < b->room) b->at[b->len++] = byte;
+    else b->short_of_room = true;
+}
+
+void put_number(struct blob *b, uint32_t n)
+{
+    for (int shift = 24; shift >= 0; shift -= 8) put_byte(b, (uint8_t)(n >> shift));
+}
+
+void put_string(struct blob *b, const void *bytes, size_t len)
 {
     uint64_t count;
     b->short_of_room |= castulfrisa_write_string(b->at + b->len, b->room - b->len, bytes, len, &count) != CASTULFRISA_OK;
     b->len += (size_t)count;
 }
 
-static void put_text(struct blob *b, const char *text) { put_string(b, text, strlen(text)); }
+void put_text(struct blob *b, const char *text) { put_string(b, text, strlen(text)); }
 
-static void put_number(struct blob *b, const BIGNUM *n)
+static void put_positive(struct blob *b, const BIGNUM *n)
 {
     uint8_t bytes[1 + RSA_BYTES_MOST] = {0}; /* the leading 0 is the sign; the writer shortens */
     int len = BN_num_bytes(n);
@@ -240,8 +265,8 @@ bool sign_hash(const struct host_key *k, const struct scheme *s, const uint8_t *
         const uint8_t *der = raw;
         ECDSA_SIG *both = d2i_ECDSA_SIG(NULL, &der, (long)raw_len);
         if (both == NULL) return false;
-        put_number(&numbers, ECDSA_SIG_get0_r(both));
-        put_number(&numbers, ECDSA_SIG_get0_s(both));
+        put_positive(&numbers, ECDSA_SIG_get0_r(both));
+        put_positive(&numbers, ECDSA_SIG_get0_s(both));
         ECDSA_SIG_free(both);
         put_string(&signature, pair, numbers.len);
     } else
@@ -279,8 +304,8 @@ static bool describe_rsa(EVP_PKEY *key, struct blob *blob)
     bool good = EVP_PKEY_get_bits(key) >= RSA_BITS_LEAST && EVP_PKEY_get_bn_param(key, OSSL_PKEY_PARAM_RSA_E, &e) > 0
         && EVP_PKEY_get_bn_param(key, OSSL_PKEY_PARAM_RSA_N, &n) > 0;
     if (good) {
-        put_number(blob, e);
-        put_number(blob, n);
+        put_positive(blob, e);
+        put_positive(blob, n);
     }
     BN_free(e);
     BN_free(n);

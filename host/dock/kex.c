@@ -1,4 +1,5 @@
-/* The exchange, as client and as server: versions, KEXINIT, the core's steps in their order, the keys, NEWKEYS (RFC 4253, 7 and 8). */
+/* The exchanges of a connection, as client and as server: versions, then for each KEXINIT, the core's steps in their order, the keys, NEWKEYS (RFC
+   4253, 7 to 9). */
 #include "dock.h"
 #include <openssl/rand.h>
 #include <string.h>
@@ -15,15 +16,23 @@ struct kex {
     struct link link;
     uint64_t role;
 
+    castulfrisa_session session; /* what the core told behind the last exchange: how many there were, and the identifier */
+    uint8_t id[CASTULFRISA_H_SIZE];
+    struct asked asked;
+    bool by_us; /* asked for the exchange that runs */
+
     uint8_t peer_v[CASTULFRISA_V_MOST], own_i[CASTULFRISA_KEXINIT_MOST], peer_i[CASTULFRISA_KEXINIT_MOST];
+    size_t own_i_len;
     span vc, vs, ic, is; /* of those, by role */
+    uint8_t host_key[CASTULFRISA_BLOB_MOST]; /* the server's in the first exchange */
+    size_t host_key_len;
 
     uint64_t method;
     const struct scheme *scheme;
     castulfrisa_sizes sizes;
     bool drop; /* the peer guessed wrong: its next packet is not for the exchange */
 
-    uint8_t exchange[CASTULFRISA_EXCHANGE]; /* here and nowhere else: no copy of it is made */
+    uint8_t exchange[CASTULFRISA_EXCHANGE]; /* one for the connection, here and nowhere else: no copy of it is made */
     uint8_t room[CASTULFRISA_ROOM];
     uint64_t filled; /* how far the fields fill the room, for --show */
 
@@ -45,11 +54,11 @@ static struct seal *seal_towards(struct kex *k, enum direction way)
 
 /* ---- the core's numbers */
 
-/* 0 goes on; 1 to 5 are our own limits; all others are the peer's fault. */
+/* 0 goes on; 1 to 5 and 23 are our own limits; all others are the peer's fault. */
 static bool accepted(struct kex *k, const char *what, uint64_t number)
 {
     if (number == CASTULFRISA_OK) return true;
-    if (number <= CASTULFRISA_SHORT_OUTPUT)
+    if (number <= CASTULFRISA_SHORT_OUTPUT || number == CASTULFRISA_COUNT_FULL)
         return trouble("%s not possible (number %u: %s)", what, (unsigned)number, castulfrisa_text(number));
     return peer_fault(&k->link, "%s refused (number %u: %s)", what, (unsigned)number, castulfrisa_text(number));
 }
@@ -77,16 +86,33 @@ static bool exchange_versions(struct kex *k)
     return true;
 }
 
-static bool send_kexinit(struct kex *k, span *own)
+static bool is_first(const struct kex *k) { return k->session.completed == 0; }
+
+/* The methods to offer: all of them, or of the turns the one whose turn it is. */
+static span own_methods(const struct kex *k)
+{
+    span list = text_span(k->set->methods);
+    if (is_first(k) || k->set->turns == NULL) return list;
+    uint64_t count = 1;
+    for (const char *at = k->set->turns; *at != 0; at++) count += *at == ',';
+    const char *at = k->set->turns;
+    for (uint64_t turn = (k->session.completed - 1) % count; turn > 0; turn--) at += strcspn(at, ",") + 1;
+    return (span){(const uint8_t *)at, strcspn(at, ",")};
+}
+
+/* Strict key exchange is named in the first KEXINIT alone. */
+static bool send_kexinit(struct kex *k)
 {
     const struct settings *set = k->set;
+    const span offered = own_methods(k);
+    const bool strict = is_first(k) && !set->not_strict;
     uint8_t cookie[CASTULFRISA_COOKIE], joined[CASTULFRISA_KEXINIT_MOST];
     char methods[CASTULFRISA_KEXINIT_MOST];
     castulfrisa_proposed told;
     uint64_t ends[CASTULFRISA_LISTS];
 
-    int methods_len = snprintf(methods, sizeof methods, "%s%s", set->methods,
-                               set->not_strict ? "" : k->role == CASTULFRISA_CLIENT ? "," STRICT_CLIENT : "," STRICT_SERVER);
+    int methods_len = snprintf(methods, sizeof methods, "%.*s%s", (int)offered.len, (const char *)offered.at,
+                               !strict ? "" : k->role == CASTULFRISA_CLIENT ? "," STRICT_CLIENT : "," STRICT_SERVER);
     if (methods_len < 0 || (size_t)methods_len >= sizeof methods) return trouble("own methods are too long");
     const span none = text_span("none"), empty = text_span("");
     const span own_lists[] = {text_span(methods), text_span(set->host_keys), set->ciphers[TO_SERVER], set->ciphers[TO_CLIENT],
@@ -98,9 +124,9 @@ static bool send_kexinit(struct kex *k, span *own)
     if (len > sizeof joined) return trouble("own lists of %lu bytes are too long", (unsigned long)len);
     if (RAND_bytes(cookie, sizeof cookie) != 1) return trouble("no random bytes");
     uint64_t number = castulfrisa_write_kexinit(k->own_i, sizeof k->own_i, cookie, sizeof cookie, joined, len, ends, 0, 0, &told);
-    *own = (span){k->own_i, (size_t)told.count};
+    k->own_i_len = (size_t)told.count;
     show(k->link.show, "->", "KEXINIT", (long)told.count, (int)number, -1);
-    return accepted(k, "own KEXINIT", number) && link_send(&k->link, own->at, own->len);
+    return accepted(k, "own KEXINIT", number) && link_send(&k->link, k->own_i, k->own_i_len);
 }
 
 /* ---- the choices that are not the core's */
@@ -141,28 +167,28 @@ static bool choose_seals(struct kex *k)
         span cipher, mac, compression;
         if (!common_name(k, "cipher", lists[way][0], &cipher) || !common_name(k, "MAC", lists[way][1], &mac)
             || !common_name(k, "compression", lists[way][2], &compression)) return false;
-        s->cipher = cipher_named(cipher);
-        s->mac = mac_named(mac);
-        if (s->cipher == NULL || s->mac == NULL || !span_is(compression, "none")) return trouble("the choice is none of our names");
+        s->next.cipher = cipher_named(cipher);
+        s->next.mac = mac_named(mac);
+        if (s->next.cipher == NULL || s->next.mac == NULL || !span_is(compression, "none")) return trouble("the choice is none of our names");
     }
     return true;
 }
 
-/* Strict where both sides name it. Then the peer's KEXINIT must have been its first packet. */
+/* Strict where both sides name it, in the first exchange and for all that follow. Then the peer's KEXINIT must have been its first packet. */
 static bool choose_strict(struct kex *k)
 {
+    if (!is_first(k)) return true;
     bool client = k->role == CASTULFRISA_CLIENT;
     span theirs = text_span(client ? STRICT_SERVER : STRICT_CLIENT);
     k->link.strict = !k->set->not_strict && has_name(client ? k->is : k->ic, CASTULFRISA_LIST_KEX, theirs);
     return !k->link.strict || k->link.coming.sequence == 1 || peer_fault(&k->link, "KEXINIT is not the first packet of a strict key exchange");
 }
 
-/* KEXINIT both ways, the choice, and the exchange begun. */
-static bool negotiate(struct kex *k)
+/* KEXINIT has gone both ways: the choice, and the exchange begun, or begun again. */
+static bool negotiate(struct kex *k, span peer)
 {
     bool client = k->role == CASTULFRISA_CLIENT;
-    span own, peer;
-    if (!send_kexinit(k, &own) || !link_receive(&k->link, &peer)) return false;
+    span own = {k->own_i, k->own_i_len};
 
     /* The choice judges the payload in the buffer that it came in, whatever its length; only an accepted one is kept. */
     k->ic = client ? own : peer;
@@ -181,9 +207,12 @@ static bool negotiate(struct kex *k)
     if (!choose_seals(k) || !choose_strict(k)) return false;
     if (!accepted(k, "sizes", castulfrisa_method_sizes(k->method, &k->sizes))) return false;
 
-    number = castulfrisa_start(k->exchange, sizeof k->exchange, k->role, k->method, k->vc.at, k->vc.len, k->vs.at, k->vs.len, k->ic.at,
-                               k->ic.len, k->is.at, k->is.len, k->room, sizeof k->room);
-    return accepted(k, "start", shown(k, "", "start", NO_MESSAGE, number, 4 * 4 + k->vc.len + k->vs.len + k->ic.len + k->is.len));
+    const char *what = is_first(k) ? "start" : "again";
+    if (is_first(k))
+        number = castulfrisa_start(k->exchange, sizeof k->exchange, k->role, k->method, k->vc.at, k->vc.len, k->vs.at, k->vs.len, k->ic.at,
+                                   k->ic.len, k->is.at, k->is.len, k->room, sizeof k->room);
+    else number = castulfrisa_again(EXCHANGE(k), k->method, k->ic.at, k->ic.len, k->is.at, k->is.len);
+    return accepted(k, what, shown(k, "", what, NO_MESSAGE, number, 4 * 4 + k->vc.len + k->vs.len + k->ic.len + k->is.len));
 }
 
 /* The peer's message of the exchange, a wrong guess dropped. */
@@ -204,9 +233,9 @@ static uint64_t derive_towards(const struct kex *k, enum direction way, const st
     const uint64_t letter = way == TO_SERVER ? 'A' : 'B';
     uint64_t number = castulfrisa_derive(k->exchange, sizeof k->exchange, letter, sizeof keys->iv, keys->iv, sizeof keys->iv);
     if (number == CASTULFRISA_OK)
-        number = castulfrisa_derive(k->exchange, sizeof k->exchange, letter + 2, s->cipher->key_len, keys->cipher, sizeof keys->cipher);
+        number = castulfrisa_derive(k->exchange, sizeof k->exchange, letter + 2, s->next.cipher->key_len, keys->cipher, sizeof keys->cipher);
     if (number == CASTULFRISA_OK)
-        number = castulfrisa_derive(k->exchange, sizeof k->exchange, letter + 4, s->mac->tag_len, keys->mac, sizeof keys->mac);
+        number = castulfrisa_derive(k->exchange, sizeof k->exchange, letter + 4, s->next.mac->tag_len, keys->mac, sizeof keys->mac);
     castulfrisa_wipe_stack();
     return number;
 }
@@ -227,7 +256,8 @@ static bool derive_keys(struct kex *k)
     return taken;
 }
 
-/* What the keys were made of, as soon as they are there; H stays, which is no secret. */
+/* What the keys were made of, as soon as they are there. H stays, which is no secret; and the exchange, which can begin again, with K in it until
+   then, and of the room the V's, which it then takes. */
 static void forget_secrets(struct kex *k)
 {
     EVP_PKEY **const ephemeral[] = {&k->own, &k->peer, &k->own_kem};
@@ -236,8 +266,9 @@ static void forget_secrets(struct kex *k)
         *ephemeral[i] = NULL;
     }
     memcpy(k->x_begins, k->x, sizeof k->x_begins);
-    castulfrisa_wipe(k->exchange, sizeof k->exchange);
-    castulfrisa_wipe(k->room, sizeof k->room);
+    k->kem = CASTULFRISA_KEM_ABSENT;
+    const size_t versions = 4 + k->vc.len + 4 + k->vs.len;
+    castulfrisa_wipe(k->room + versions, sizeof k->room - versions);
     castulfrisa_wipe(k->x, sizeof k->x);
     castulfrisa_wipe(k->k_pq, sizeof k->k_pq);
 }
@@ -255,37 +286,48 @@ static bool exchange_newkeys(struct kex *k)
         return peer_fault(l, "message %u of %lu bytes where NEWKEYS is due", payload.len > 0 ? (unsigned)payload.at[0] : 0,
                           (unsigned long)payload.len);
     seal_begin(&l->coming, l->strict);
+    l->exchanging = false;
     show(l->show, "<-", "NEWKEYS", (long)payload.len, -1, -1);
     return true;
 }
 
+static void print_first(struct kex *k, const char *print, enum known known)
+{
+    printf("host key %s %s\n", k->scheme->name, print);
+    if (k->role == CASTULFRISA_CLIENT) printf("known %s\n", known == KNOWN_YES ? "yes" : "not asked");
+    print_hex("X begins", k->x_begins, sizeof k->x_begins);
+    for (int way = TO_SERVER; way <= TO_CLIENT; way++) {
+        const struct suite *s = &seal_towards(k, way)->now;
+        printf("%s %s %s\n", way == TO_SERVER ? "to server" : "to client", s->cipher->name, s->mac->name);
+    }
+    printf("strict %s\n", k->link.strict ? "yes" : "no");
+    puts("NEWKEYS sent and received");
+}
+
+/* What each exchange has for itself, and the identifier, which they have in common. */
 static bool print_results(struct kex *k, const char *print, enum known known)
 {
     uint8_t name[CASTULFRISA_METHOD_NAME_MOST];
     uint64_t name_len;
     if (castulfrisa_method_name(k->method, name, sizeof name, &name_len) != CASTULFRISA_OK) return trouble("a method without a name");
+    const bool first = k->session.completed == 1;
+    if (!first) printf("again %s ", k->by_us ? "by us" : "by the peer");
     printf("method %u %.*s\n", (unsigned)k->method, (int)name_len, (const char *)name);
-    printf("host key %s %s\n", k->scheme->name, print);
-    if (k->role == CASTULFRISA_CLIENT) printf("known %s\n", known == KNOWN_YES ? "yes" : "not asked");
     print_hex("H", k->h, (size_t)k->sizes.digest_len);
-    print_hex("X begins", k->x_begins, sizeof k->x_begins);
-    for (int way = TO_SERVER; way <= TO_CLIENT; way++) {
-        const struct seal *s = seal_towards(k, way);
-        printf("%s %s %s\n", way == TO_SERVER ? "to server" : "to client", s->cipher->name, s->mac->name);
-    }
-    printf("strict %s\n", k->link.strict ? "yes" : "no");
-    puts("NEWKEYS sent and received");
+    printf("exchange %lu ", (unsigned long)k->session.completed);
+    print_hex("identifier", k->id, (size_t)k->session.id_len);
+    if (first) print_first(k, print, known);
     return fflush(stdout) == 0 || trouble("standard output cannot be written");
 }
 
-/* From the exchange that is complete to the first service. */
+/* From the exchange that is complete to packets under its keys. */
 static bool finish(struct kex *k, const char *print, enum known known)
 {
     castulfrisa_wipe(k->k, sizeof k->k); /* the keys come from the exchange */
     bool keyed = derive_keys(k);
     forget_secrets(k);
-    if (!keyed || !exchange_newkeys(k) || !print_results(k, print, known)) return false;
-    return k->set->no_service || (k->role == CASTULFRISA_CLIENT ? ask_service(&k->link) : grant_service(&k->link));
+    if (!keyed || !accepted(k, "identifier", castulfrisa_session_id(k->exchange, sizeof k->exchange, &k->session, k->id))) return false;
+    return exchange_newkeys(k) && print_results(k, print, known);
 }
 
 /* ---- client */
@@ -320,14 +362,22 @@ static bool give_verdict(struct kex *k, span host_key, span signature, const cha
     const struct settings *set = k->set;
     bool holds = signature_holds(k->scheme, host_key, signature, k->h, (size_t)k->sizes.digest_len);
     if (set->known_hosts != NULL) *known = known_host(set->known_hosts, set->host, set->port, k->scheme->key_type, host_key);
-    bool trusted = *known == KNOWN_NOT_ASKED || *known == KNOWN_YES;
+    bool same = is_first(k) || (host_key.len == k->host_key_len && memcmp(host_key.at, k->host_key, host_key.len) == 0);
+    bool trusted = same && (*known == KNOWN_NOT_ASKED || *known == KNOWN_YES);
 
     uint64_t k_len;
     uint64_t number = castulfrisa_verdict(EXCHANGE(k), holds, trusted, k->k, sizeof k->k, &k_len);
     castulfrisa_wipe_stack();
     shown(k, "", "verdict", NO_MESSAGE, number, k->filled);
+    if (number == CASTULFRISA_OK) {
+        memcpy(k->host_key, host_key.at, host_key.len); /* which the core took for no longer than a blob */
+        k->host_key_len = host_key.len;
+    }
     if (number != CASTULFRISA_VERDICT) return accepted(k, "verdict", number);
-    const char *why = !holds ? "signature over H does not hold" : *known == KNOWN_DIFFERS ? "differs from the known one" : "not known";
+    const char *why = !holds      ? "signature over H does not hold"
+        : !same                   ? "is not that of the first exchange"
+        : *known == KNOWN_DIFFERS ? "differs from the known one"
+                                  : "not known";
     return peer_fault(&k->link, "host key %s %s: %s (number %u: %s)", k->scheme->name, print, why, (unsigned)number,
                       castulfrisa_text(number));
 }
@@ -360,7 +410,6 @@ static bool client(struct kex *k)
     enum known known = KNOWN_NOT_ASKED;
     const span none = {NULL, 0};
 
-    if (!exchange_versions(k) || !negotiate(k)) return false;
     if (!draw_c(k)) return false;
     uint64_t init_len;
     uint64_t number = castulfrisa_own_c(EXCHANGE(k), k->c, k->c_len, init, sizeof init, &init_len);
@@ -441,7 +490,6 @@ static bool server(struct kex *k)
 {
     char print[FINGERPRINT];
     bool given;
-    if (!exchange_versions(k) || !negotiate(k)) return false;
     const struct host_key *key = chosen_key(k);
     if (key == NULL) return trouble("no host key for %s", k->scheme->name);
     const span host_key = {key->blob, key->blob_len};
@@ -449,6 +497,57 @@ static bool server(struct kex *k)
 
     return read_init(k, &given) && take_secret(k, given, host_key, (span){k->c, k->c_len}) && send_reply(k, key)
         && finish(k, print, KNOWN_NOT_ASKED);
+}
+
+/* ---- the first exchange and all others */
+
+/* From the peer's KEXINIT, with the own one out, to packets under new keys. */
+static bool exchange(struct kex *k, span peer, bool by_us)
+{
+    k->link.exchanging = true;
+    k->by_us = by_us;
+    return negotiate(k, peer) && (k->role == CASTULFRISA_CLIENT ? client(k) : server(k));
+}
+
+static bool first_exchange(struct kex *k)
+{
+    span peer;
+    k->link.exchanging = true;
+    return exchange_versions(k) && send_kexinit(k) && link_receive(&k->link, &peer) && exchange(k, peer, true);
+}
+
+struct link *kex_link(struct kex *k) { return &k->link; }
+
+struct asked kex_asked(const struct kex *k) { return k->asked; }
+
+span kex_identifier(const struct kex *k) { return (span){k->id, (size_t)k->session.id_len}; }
+
+static bool is_kexinit(span payload) { return payload.len > 0 && payload.at[0] == MESSAGE_KEXINIT; }
+
+bool kex_receive(struct kex *k, span *payload)
+{
+    while (link_receive(&k->link, payload)) {
+        if (!is_kexinit(*payload)) return true;
+        if (!send_kexinit(k) || !exchange(k, *payload, false)) return false;
+        k->asked.peer++;
+    }
+    return false;
+}
+
+bool kex_ask(struct kex *k, bool (*take)(void *of, span payload), void *of)
+{
+    span payload;
+    if (!send_kexinit(k)) return false;
+    while (link_receive(&k->link, &payload)) {
+        if (is_kexinit(payload)) {
+            if (!exchange(k, payload, true)) return false;
+            k->asked.own++;
+            return true;
+        }
+        if (!take(of, payload)) return false;
+        k->asked.between++;
+    }
+    return false;
 }
 
 /* ---- one connection of either role, wiped behind it */
@@ -462,22 +561,45 @@ static void kex_end(struct kex *k)
     castulfrisa_wipe((uint8_t *)k, sizeof *k);
 }
 
-bool exchange_as_client(const struct settings *set)
+/* Where data are to flow, the exchanges asked for come between them: OpenSSH makes none between the first and the login. */
+static bool talk_as_client(struct kex *k)
+{
+    const struct settings *set = k->set;
+    if (set->no_service) return true;
+    if (!ask_service(k)) return false;
+    if (set->user != NULL) return session_as_client(k, set);
+    if (!rekey_behind_service(k, set->rekeyings)) return false;
+    link_disconnect(&k->link, REASON_BY_APPLICATION, "the service was accepted, and that was all");
+    return true;
+}
+
+static bool talk_as_server(struct kex *k)
+{
+    const struct settings *set = k->set;
+    if (set->no_service) return true;
+    if (!grant_service(k)) return false;
+    if (set->echo) return session_as_server(k, set);
+    if (!rekey_behind_service(k, set->rekeyings)) return false;
+    link_disconnect(&k->link, REASON_BY_APPLICATION, "the service is accepted, and that is all");
+    return true;
+}
+
+bool connect_as_client(const struct settings *set)
 {
     struct kex k = {.set = set, .role = CASTULFRISA_CLIENT};
     bool done = link_connect(&k.link, set->host, set->port, set->timeout);
     k.link.show = set->show;
-    done = done && client(&k);
+    done = done && first_exchange(&k) && talk_as_client(&k);
     kex_end(&k);
     return done;
 }
 
-bool exchange_as_server(const struct settings *set, int listener)
+bool connect_as_server(const struct settings *set, int listener)
 {
     struct kex k = {.set = set, .role = CASTULFRISA_SERVER};
     bool done = link_accept(&k.link, listener, set->timeout);
     k.link.show = set->show;
-    done = done && server(&k);
+    done = done && first_exchange(&k) && talk_as_server(&k);
     kex_end(&k);
     return done;
 }

@@ -67,7 +67,7 @@ static const char *send_packet(struct link *l, const uint8_t *payload, size_t le
     if (padding < 4) padding += block;
     size_t length = 1 + len + padding;
     if (4 + length + tag > sizeof packet) return "packet too long to send";
-    if (l->going.sequence == UINT32_MAX) return "too many packets under one key";
+    if (l->going.packets == UINT32_MAX) return "too many packets under one key";
 
     packet[0] = (uint8_t)(length >> 24);
     packet[1] = (uint8_t)(length >> 16);
@@ -221,7 +221,7 @@ static bool receive_packet(struct link *l, span *payload)
     unsigned long sequence = s->sequence;
     l->begin += l->packet;
     l->packet = 0;
-    if (sequence == UINT32_MAX) return peer_fault(l, "too many packets under one key");
+    if (s->packets == UINT32_MAX) return peer_fault(l, "too many packets under one key");
     if (!need(l, seal_ahead(s))) return false;
     if (!seal_show_length(s, l->in + l->begin)) return trouble("libcrypto does not decrypt");
     uint32_t length = number_at(l->in + l->begin);
@@ -238,9 +238,11 @@ static bool receive_packet(struct link *l, span *payload)
     return true;
 }
 
-static bool disconnected(span payload)
+static bool disconnected(struct link *l, span payload)
 {
     if (payload.len < 5) return trouble("the peer disconnected without a reason");
+    l->left = l->may_leave && number_at(payload.at + 1) == REASON_BY_APPLICATION;
+    if (l->left) return false;
     span rest = {payload.at + 5, payload.len - 5}, text = {rest.at, 0};
     (void)take_string(&rest, &text); /* a text that is cut is none */
     return trouble("the peer disconnected: reason %lu, %.*s", (unsigned long)number_at(payload.at + 1),
@@ -255,8 +257,12 @@ bool link_receive(struct link *l, span *payload)
         switch (message) {
         case MESSAGE_IGNORE: show(l->show, "<-", "IGNORE", len, -1, -1); break;
         case MESSAGE_DEBUG: show(l->show, "<-", "DEBUG", len, -1, -1); break;
-        case MESSAGE_UNIMPLEMENTED: show(l->show, "<-", "UNIMPLEMENTED", len, -1, -1); break;
-        case MESSAGE_DISCONNECT: show(l->show, "<-", "DISCONNECT", len, -1, -1); return disconnected(*payload);
+        case MESSAGE_UNIMPLEMENTED:
+            show(l->show, "<-", "UNIMPLEMENTED", len, -1, -1);
+            if (l->held && !l->exchanging && len == 5 && number_at(payload->at + 1) == l->kexinit)
+                return trouble("the peer makes no key exchange at this time");
+            break;
+        case MESSAGE_DISCONNECT: show(l->show, "<-", "DISCONNECT", len, -1, -1); return disconnected(l, *payload);
         default: return true;
         }
         if (l->strict && !l->coming.on) return peer_fault(l, "message %u within a strict key exchange", (unsigned)message);
@@ -312,31 +318,50 @@ bool link_send_version(struct link *l, const char *v)
     return failure == NULL || trouble("sending: %s", failure);
 }
 
+/* RFC 4253, 7.1: what may go out between own KEXINIT and own NEWKEYS. */
+static bool is_of_exchange(uint8_t message)
+{
+    return message < MESSAGE_SERVICE_REQUEST || (message > MESSAGE_SERVICE_ACCEPT && message < MESSAGE_KEXINIT)
+        || (message > MESSAGE_KEXINIT && message < MESSAGES_OF_TRANSPORT);
+}
+
 bool link_send(struct link *l, const uint8_t *payload, size_t len)
 {
     if (l->silent) return trouble("sending behind DISCONNECT");
+    if (l->held && !is_of_exchange(payload[0])) return trouble("sending message %u within a key exchange", (unsigned)payload[0]);
+    if (payload[0] == MESSAGE_KEXINIT) {
+        l->held = true;
+        l->kexinit = l->going.sequence;
+    }
+    if (payload[0] == MESSAGE_NEWKEYS) l->held = false;
     const char *failure = send_packet(l, payload, len);
+    if (l->may_leave) return true; /* where it has left, its last words say so: they are still to be read */
     return failure == NULL || trouble("sending: %s", failure);
 }
 
-static size_t put_string(uint8_t *out, size_t out_len, const char *body)
+bool link_unimplemented(struct link *l)
 {
-    uint64_t count;
-    span s = text_span(body);
-    return castulfrisa_write_string(out, out_len, s.at, s.len, &count) == CASTULFRISA_OK ? (size_t)count : 0;
+    uint8_t payload[5];
+    struct blob b = {payload, sizeof payload, 0, false};
+    put_byte(&b, MESSAGE_UNIMPLEMENTED);
+    put_number(&b, l->coming.sequence - 1);
+    show(l->show, "->", "UNIMPLEMENTED", (long)b.len, -1, -1);
+    return link_send(l, payload, b.len);
 }
 
 void link_disconnect(struct link *l, enum reason reason, const char *text)
 {
-    uint8_t payload[128] = {MESSAGE_DISCONNECT, 0, 0, 0, (uint8_t)reason};
-    size_t len = 5;
+    uint8_t payload[128];
+    struct blob b = {payload, sizeof payload, 0, false};
     if (l->silent) return;
     l->silent = true;
     l->deadline = now_ms() + LAST_WORDS_MS;
-    len += put_string(payload + len, sizeof payload - len, text);
-    len += put_string(payload + len, sizeof payload - len, "");
-    show(l->show, "->", "DISCONNECT", (long)len, -1, -1);
-    (void)send_packet(l, payload, len);
+    put_byte(&b, MESSAGE_DISCONNECT);
+    put_number(&b, reason);
+    put_text(&b, text);
+    put_text(&b, "");
+    show(l->show, "->", "DISCONNECT", (long)b.len, -1, -1);
+    (void)send_packet(l, payload, b.len);
 }
 
 bool peer_fault(struct link *l, const char *format, ...)
@@ -348,7 +373,7 @@ bool peer_fault(struct link *l, const char *format, ...)
     vsnprintf(line, sizeof line, format, arguments);
     va_end(arguments);
     trouble("%s", line);
-    if (l->coming.on) link_disconnect(l, REASON_PROTOCOL_ERROR, "protocol error");
-    else link_disconnect(l, REASON_KEY_EXCHANGE_FAILED, "key exchange failed");
+    if (l->exchanging) link_disconnect(l, REASON_KEY_EXCHANGE_FAILED, "key exchange failed");
+    else link_disconnect(l, REASON_PROTOCOL_ERROR, "protocol error");
     return false;
 }

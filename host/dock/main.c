@@ -17,24 +17,32 @@
 enum { DONE = 0, FAILED = 1, USAGE = 2 };
 
 static const char help[] =
-    "usage: dock client HOST PORT [--known-hosts FILE] [--host-keys NAME,..] [options]\n"
-    "       dock server PORT --host-key FILE [--host-key FILE ..] [--x-begins HEX] [--count N] [options]\n"
+    "usage: dock client HOST PORT [--known-hosts FILE] [--host-keys NAME,..] [--login USER [--key FILE] [--rekeyed N]] [options]\n"
+    "       dock server PORT --host-key FILE [--host-key FILE ..] [--echo] [--x-begins HEX] [--count N] [options]\n"
     "\n"
-    "Makes one SSH key exchange, and behind NEWKEYS, encrypted, asks for the service ssh-userauth or accepts it, which is the end. Prints\n"
-    "method, host key, H, the first two bytes of X, cipher and MAC of each direction, whether the exchange was strict, and the service.\n"
+    "Makes an SSH key exchange, and behind NEWKEYS, encrypted, asks for the service ssh-userauth or accepts it, which is the end. Prints\n"
+    "method, H, the session identifier, host key, the first two bytes of X, cipher and MAC of each direction, whether the exchange was strict,\n"
+    "and the service; and method, H and identifier of each later exchange, of which the peer may ask for any number.\n"
     "A failure is one line on standard error and exit 1; a fault of the peer is answered with SSH_DISCONNECT, reason 3, or 2, 5 or 7\n"
     "behind NEWKEYS. Exit 2: the command line.\n"
     "\n"
     "  --known-hosts FILE  refuse a host key that FILE does not have for HOST ('host type base64' or '[host]:port type base64')\n"
     "  --host-keys NAME,.. host key names in order of preference: ssh-ed25519, ecdsa-sha2-nistp256, ecdsa-sha2-nistp384,\n"
     "                      ecdsa-sha2-nistp521, rsa-sha2-512, rsa-sha2-256\n"
+    "  --login USER        go on behind the service: log in, run cat, and send data until the exchanges that are asked for are complete; what\n"
+    "                      comes back must be the same\n"
+    "  --key FILE          log in with this private key, in a form of --host-key's; else by the method none\n"
+    "  --rekeyed N         with --login: send data until the peer has asked for N exchanges\n"
     "  --host-key FILE     a private key, in PEM or OpenSSH form, without a passphrase\n"
     "  --x-begins HEX      for tests: draw the ephemeral key until X begins with these 1 or 2 bytes\n"
+    "  --echo              go on behind the service: let anybody in by the method none, and send back what comes for the first command\n"
     "  --count N           connections to serve, one after the other (1); exit 0 if every exchange was completed\n"
     "options:\n"
     "  --methods NAME,..   key exchange methods in order of preference: curve25519-sha256, curve25519-sha256@libssh.org,\n"
     "                      curve448-sha512, ecdh-sha2-nistp256, ecdh-sha2-nistp384, ecdh-sha2-nistp521\n"
     "%s"
+    "  --rekey N           ask for N exchanges behind the first (0): behind the service, with --login and --echo between data\n"
+    "  --turns NAME,..     methods of the later exchanges, each of which offers one alone, in turn\n"
     "  --ciphers NAME,..   of aes256-ctr and aes128-ctr, in order of preference; NAME,../NAME,.. is to the server and to the client\n"
     "  --macs NAME,..      of hmac-sha2-256, hmac-sha2-512 and these with -etm@openssh.com behind them, likewise\n"
     "  --no-strict         do not offer strict key exchange\n"
@@ -62,7 +70,7 @@ static int print_help(void)
 
 struct command {
     struct settings set;
-    struct host_key keys[HOST_KEYS_MOST];
+    struct host_key keys[HOST_KEYS_MOST], login_key;
     char host_keys[512], port[8];
     long count;
 };
@@ -137,11 +145,12 @@ static int misused(const char *what, const char *value)
 static bool is_option(const char *given, const char *name) { return strcmp(given, name) == 0; }
 
 /* An option without a value. */
-static bool take_flag(struct settings *set, const char *name)
+static bool take_flag(struct settings *set, bool client, const char *name)
 {
     if (is_option(name, "--show")) set->show = true;
     else if (is_option(name, "--no-strict")) set->not_strict = true;
     else if (is_option(name, "--no-service")) set->no_service = true;
+    else if (!client && is_option(name, "--echo")) set->echo = true;
     else return false;
     return true;
 }
@@ -154,6 +163,11 @@ static int take_option(struct command *c, bool client, const char *name, const c
     if (is_option(name, "--methods")) {
         if (!all_names(text_span(value), is_own_method)) return misused("no list of methods that are made here", value);
         set->methods = value;
+    } else if (is_option(name, "--turns")) {
+        if (!all_names(text_span(value), is_own_method)) return misused("no list of methods that are made here", value);
+        set->turns = value;
+    } else if (is_option(name, "--rekey")) {
+        if (!whole_number(value, 0, 1000000000, &set->rekeyings)) return misused("no number of exchanges", value);
     } else if (is_option(name, "--ciphers")) {
         if (!read_directions(value, is_own_cipher, set->ciphers)) return misused("no list of ciphers that are made here", value);
     } else if (is_option(name, "--macs")) {
@@ -168,6 +182,14 @@ static int take_option(struct command *c, bool client, const char *name, const c
         if (set->known_hosts != NULL) return misused("--known-hosts given twice", NULL);
         set->known_hosts = fopen(value, "r");
         if (set->known_hosts == NULL) return trouble("%s: %s", value, strerror(errno)), FAILED;
+    } else if (client && is_option(name, "--login")) {
+        set->user = value;
+    } else if (client && is_option(name, "--key")) {
+        if (set->login_key != NULL) return misused("--key given twice", NULL);
+        if (!load_host_key(value, &c->login_key)) return FAILED;
+        set->login_key = &c->login_key;
+    } else if (client && is_option(name, "--rekeyed")) {
+        if (!whole_number(value, 0, 1000000000, &set->peer_rekeyings)) return misused("no number of exchanges", value);
     } else if (!client && is_option(name, "--host-key")) {
         if (set->key_count == HOST_KEYS_MOST) return misused("too many host keys", NULL);
         if (!load_host_key(value, &c->keys[set->key_count])) return FAILED;
@@ -184,7 +206,7 @@ static int take_option(struct command *c, bool client, const char *name, const c
 static int take_options(struct command *c, bool client, char **arguments)
 {
     for (; *arguments != NULL; arguments++) {
-        if (take_flag(&c->set, *arguments)) continue;
+        if (take_flag(&c->set, client, *arguments)) continue;
         if (strncmp(*arguments, "--", 2) != 0) return misused("one argument too many", *arguments);
         if (arguments[1] == NULL) return misused("no value or no such option", *arguments);
         int result = take_option(c, client, arguments[0], arguments[1]);
@@ -219,7 +241,8 @@ static int run_client(struct command *c, char **arguments)
     c->set.host_keys = "ssh-ed25519,ecdsa-sha2-nistp256,ecdsa-sha2-nistp384,ecdsa-sha2-nistp521,rsa-sha2-512,rsa-sha2-256";
     int result = take_options(c, true, arguments + 2);
     if (result != DONE) return result;
-    bool done = exchange_as_client(&c->set);
+    if (c->set.user == NULL && (c->set.login_key != NULL || c->set.peer_rekeyings > 0)) return misused("--key and --rekeyed need --login", NULL);
+    bool done = connect_as_client(&c->set);
     wipe_stack();
     return done ? DONE : FAILED;
 }
@@ -240,7 +263,7 @@ static int run_server(struct command *c, char **arguments)
     printf("listening on %u\n", (unsigned)port);
     fflush(stdout);
     for (long i = 0; i < c->count; i++) {
-        if (!exchange_as_server(&c->set, listener)) result = FAILED;
+        if (!connect_as_server(&c->set, listener)) result = FAILED;
         wipe_stack();
     }
     close(listener);
@@ -268,6 +291,7 @@ int main(int count, char **arguments)
     else result = misused("neither client nor server", arguments[1]);
 
     for (size_t i = 0; i < c.set.key_count; i++) EVP_PKEY_free(c.keys[i].key);
+    EVP_PKEY_free(c.login_key.key);
     if (c.set.known_hosts != NULL) fclose(c.set.known_hosts);
     return result;
 }

@@ -63,40 +63,51 @@ static EVP_MAC_CTX *keyed_mac(const struct mac *m, const struct seal_keys *keys)
 
 bool seal_take_keys(struct seal *s, const struct seal_keys *keys)
 {
-    s->crypt = keyed_cipher(s->cipher, keys);
-    s->tag = keyed_mac(s->mac, keys);
-    return s->crypt != NULL && s->tag != NULL;
+    s->next.crypt = keyed_cipher(s->next.cipher, keys);
+    s->next.tag = keyed_mac(s->next.mac, keys);
+    return s->next.crypt != NULL && s->next.tag != NULL;
+}
+
+static void suite_end(struct suite *s)
+{
+    EVP_CIPHER_CTX_free(s->crypt);
+    EVP_MAC_CTX_free(s->tag);
+    *s = (struct suite){0};
 }
 
 void seal_begin(struct seal *s, bool strict)
 {
+    suite_end(&s->now);
+    s->now = s->next;
+    s->next = (struct suite){0};
     s->on = true;
+    s->packets = 0;
     if (strict) s->sequence = 0;
 }
 
 void seal_end(struct seal *s)
 {
-    EVP_CIPHER_CTX_free(s->crypt);
-    EVP_MAC_CTX_free(s->tag);
+    suite_end(&s->now);
+    suite_end(&s->next);
     *s = (struct seal){0};
 }
 
 /* ---- the form of a packet */
 
-static bool hides_length(const struct seal *s) { return s->on && !s->mac->over_ciphertext; }
+static bool hides_length(const struct seal *s) { return s->on && !s->now.mac->over_ciphertext; }
 
-size_t seal_aligned(const struct seal *s, size_t length) { return s->on && s->mac->over_ciphertext ? length : LENGTH + length; }
+size_t seal_aligned(const struct seal *s, size_t length) { return s->on && s->now.mac->over_ciphertext ? length : LENGTH + length; }
 
 size_t seal_block(const struct seal *s) { return s->on ? SEAL_BLOCK : 8; }
 
-size_t seal_tag_len(const struct seal *s) { return s->on ? s->mac->tag_len : 0; }
+size_t seal_tag_len(const struct seal *s) { return s->on ? s->now.mac->tag_len : 0; }
 
 /* ---- packets */
 
 static bool apply_stream(struct seal *s, uint8_t *bytes, size_t len)
 {
     int done = 0;
-    return len == 0 || (EVP_EncryptUpdate(s->crypt, bytes, &done, bytes, (int)len) > 0 && (size_t)done == len);
+    return len == 0 || (EVP_EncryptUpdate(s->now.crypt, bytes, &done, bytes, (int)len) > 0 && (size_t)done == len);
 }
 
 /* The MAC over the packet's number and its bytes as they stand. */
@@ -104,21 +115,21 @@ static bool make_tag(struct seal *s, const uint8_t *packet, size_t len, uint8_t 
 {
     const uint8_t number[] = {(uint8_t)(s->sequence >> 24), (uint8_t)(s->sequence >> 16), (uint8_t)(s->sequence >> 8), (uint8_t)s->sequence};
     size_t tag_len;
-    return EVP_MAC_init(s->tag, NULL, 0, NULL) > 0 /* under the same key */
-        && EVP_MAC_update(s->tag, number, sizeof number) > 0 && EVP_MAC_update(s->tag, packet, len) > 0
-        && EVP_MAC_final(s->tag, tag, &tag_len, s->mac->tag_len) > 0 && tag_len == s->mac->tag_len;
+    return EVP_MAC_init(s->now.tag, NULL, 0, NULL) > 0 /* under the same key */
+        && EVP_MAC_update(s->now.tag, number, sizeof number) > 0 && EVP_MAC_update(s->now.tag, packet, len) > 0
+        && EVP_MAC_final(s->now.tag, tag, &tag_len, s->now.mac->tag_len) > 0 && tag_len == s->now.mac->tag_len;
 }
 
 /* In a time that does not tell how much of the tag is right. */
 static bool tag_holds(struct seal *s, const uint8_t *packet, size_t len)
 {
     uint8_t right[SEAL_TAG_MOST];
-    return make_tag(s, packet, len, right) && CRYPTO_memcmp(right, packet + len, s->mac->tag_len) == 0;
+    return make_tag(s, packet, len, right) && CRYPTO_memcmp(right, packet + len, s->now.mac->tag_len) == 0;
 }
 
 static bool close_sealed(struct seal *s, uint8_t *packet, size_t len)
 {
-    if (s->mac->over_ciphertext) return apply_stream(s, packet + LENGTH, len - LENGTH) && make_tag(s, packet, len, packet + len);
+    if (s->now.mac->over_ciphertext) return apply_stream(s, packet + LENGTH, len - LENGTH) && make_tag(s, packet, len, packet + len);
     return make_tag(s, packet, len, packet + len) && apply_stream(s, packet, len);
 }
 
@@ -126,6 +137,7 @@ bool seal_close_packet(struct seal *s, uint8_t *packet, size_t len)
 {
     bool closed = !s->on || close_sealed(s, packet, len);
     s->sequence++;
+    s->packets++;
     return closed;
 }
 
@@ -136,7 +148,7 @@ bool seal_show_length(struct seal *s, uint8_t *packet) { return !hides_length(s)
 /* The MAC comes first where it can: what it does not hold for is not decrypted. */
 static bool open_sealed(struct seal *s, uint8_t *packet, size_t len)
 {
-    if (s->mac->over_ciphertext) return tag_holds(s, packet, len) && apply_stream(s, packet + LENGTH, len - LENGTH);
+    if (s->now.mac->over_ciphertext) return tag_holds(s, packet, len) && apply_stream(s, packet + LENGTH, len - LENGTH);
     return apply_stream(s, packet + SEAL_BLOCK, len - SEAL_BLOCK) && tag_holds(s, packet, len);
 }
 
@@ -144,5 +156,6 @@ bool seal_open_packet(struct seal *s, uint8_t *packet, size_t len)
 {
     bool holds = !s->on || open_sealed(s, packet, len);
     s->sequence++;
+    s->packets++;
     return holds;
 }

@@ -1,5 +1,4 @@
-/* The first service behind NEWKEYS (RFC 4253, 10): the first packets that only the two sides of the exchange can read. No more of SSH is
-   here, and a DISCONNECT says so. */
+/* The first service behind NEWKEYS (RFC 4253, 10): the first packets that only the two sides of the exchange can read; and exchanges behind it. */
 #include "dock.h"
 
 #define SERVICE "ssh-userauth"
@@ -10,20 +9,20 @@ static const char *shown_as(enum message message) { return message == MESSAGE_SE
 
 static bool send_service(struct link *l, enum message message)
 {
-    uint8_t payload[SERVICE_BYTES] = {(uint8_t)message};
-    uint64_t count;
-    span name = text_span(SERVICE);
-    if (castulfrisa_write_string(payload + 1, sizeof payload - 1, name.at, name.len, &count) != CASTULFRISA_OK)
-        return trouble("no room for the service's name");
-    show(l->show, "->", shown_as(message), (long)(1 + count), -1, -1);
-    return link_send(l, payload, 1 + (size_t)count);
+    uint8_t payload[SERVICE_BYTES];
+    struct blob b = {payload, sizeof payload, 0, false};
+    put_byte(&b, (uint8_t)message);
+    put_text(&b, SERVICE);
+    show(l->show, "->", shown_as(message), (long)b.len, -1, -1);
+    return link_send(l, payload, b.len);
 }
 
-static bool receive_service(struct link *l, enum message message)
+static bool receive_service(struct kex *k, enum message message)
 {
+    struct link *l = kex_link(k);
     const char *shown = shown_as(message);
     span payload, name;
-    if (!link_receive(l, &payload)) return false;
+    if (!kex_receive(k, &payload)) return false;
     unsigned found = payload.len > 0 ? payload.at[0] : 0;
     span rest = {payload.at + 1, payload.len > 0 ? payload.len - 1 : 0};
     if (found != message || !take_string(&rest, &name) || rest.len != 0)
@@ -38,16 +37,26 @@ static bool receive_service(struct link *l, enum message message)
     return fflush(stdout) == 0 || trouble("standard output cannot be written");
 }
 
-bool ask_service(struct link *l)
+bool ask_service(struct kex *k)
 {
-    if (!send_service(l, MESSAGE_SERVICE_REQUEST) || !receive_service(l, MESSAGE_SERVICE_ACCEPT)) return false;
-    link_disconnect(l, REASON_BY_APPLICATION, "the service was accepted, and that was all");
-    return true;
+    return send_service(kex_link(k), MESSAGE_SERVICE_REQUEST) && receive_service(k, MESSAGE_SERVICE_ACCEPT);
 }
 
-bool grant_service(struct link *l)
+bool grant_service(struct kex *k)
 {
-    if (!receive_service(l, MESSAGE_SERVICE_REQUEST) || !send_service(l, MESSAGE_SERVICE_ACCEPT)) return false;
-    link_disconnect(l, REASON_BY_APPLICATION, "the service is accepted, and that is all");
+    return receive_service(k, MESSAGE_SERVICE_REQUEST) && send_service(kex_link(k), MESSAGE_SERVICE_ACCEPT);
+}
+
+/* The service's own messages may be under way. None is answered: the exchanges are the last that is made of the connection. */
+static bool pass_over(void *of, span payload)
+{
+    unsigned found = payload.len > 0 ? payload.at[0] : 0;
+    return found >= MESSAGES_OF_TRANSPORT || peer_fault(of, "message %u of %lu bytes where KEXINIT is due", found, (unsigned long)payload.len);
+}
+
+bool rekey_behind_service(struct kex *k, long rekeyings)
+{
+    for (; rekeyings > 0; rekeyings--)
+        if (!kex_ask(k, pass_over, kex_link(k))) return false;
     return true;
 }

@@ -11,7 +11,7 @@ import sys
 import tempfile
 
 sys.dont_write_bytecode = True
-from programs import METHODS, Dock, Failure, Programs, end_on_signals, need, results
+from programs import METHODS, Dock, Failure, Programs, end_on_signals, later_exchanges, need, results
 
 WORDS = ("direction, message, its length, the core's number for the step, the room filled so far.\nBehind NEWKEYS packets are encrypted and have a MAC, "
          "with keys that the core derived: their lengths are those of what was decrypted")
@@ -45,6 +45,16 @@ def demo(programs, dock):
     results(out)
     told(f"dock as server, {version} as client, {METHODS[1]}: its NEWKEYS says that it accepts our signature, its last words that it reads our packets",
          out + said)
+
+    allowed, options = programs.login("ssh-ed25519")
+    port = programs.sshd([*allowed, "RekeyLimit 1K"])
+    known = programs.write("known", f"[127.0.0.1]:{port} {programs.public('ssh-ed25519')}\n")
+    code, out, err = dock.run("client", "127.0.0.1", port, "--known-hosts", known, "--methods", METHODS[1], "--host-keys", "ssh-ed25519", *options,
+                              "--rekey", 2, "--rekeyed", 2, "--turns", ",".join(METHODS[method] for method in (6, 5, 4)))
+    need(code == 0, err.strip())
+    need(len(later_exchanges(out)[1]) >= 4, "fewer than four later exchanges")
+    told(f"dock as client, {version} as server, a short night: data go there and back, either side asks for new keys, and the identifier stays the first H",
+         "".join(line + "\n" for line in out.splitlines() if line.split()[0] in ("method", "H", "exchange", "again", "data")))
 
     port = programs.sshd()
     other = programs.write("other", f"[127.0.0.1]:{port} ssh-ed25519 {'A' * 43}=\n")

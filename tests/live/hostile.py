@@ -445,7 +445,7 @@ def judge(must, code, out, err, p):
     need(code == 1, f"exit {code} and not 1")
     need(len(err.splitlines()) == 1 and err.startswith("dock: ") and err.endswith("\n"), f"standard error is not one line: {err!r}")
     need(("NEWKEYS sent" in out) == p.past, f"it says that the exchange was {'not ' if p.past else ''}completed")
-    need("service" not in out, "it says that there was a service")
+    need(("service" in out) == p.granted, f"it says that there was {'no' if p.granted else 'a'} service")
     sent = p.payloads()
     need(sent is not None, "what it sent is not whole packets")
     last = sent[-1] if sent else b""

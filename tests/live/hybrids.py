@@ -14,15 +14,31 @@ import sys
 import tempfile
 
 sys.dont_write_bytecode = True
+import rekey
 from hostile import FAULT, LOW_ORDER, PUBLIC, Turn, against_server, changed_replies, init_of, judge
 from live import completed, known_hosts, part, serve_ssh
 from peer import Ecdsa
-from programs import METHODS, Dock, Failure, Programs, Unpacked, end_on_signals, free_port, need
+from programs import METHODS, Dock, Failure, Programs, Unpacked, end_on_signals, free_port, later_exchanges, need
 
 HYBRIDS = (7, 8, 9)
 ED25519 = "ssh-ed25519"
 TIMES = 10  # of dock with dock, in each method
 LONG_KEYS = "--macs", "hmac-sha2-512/hmac-sha2-512-etm@openssh.com"  # of 64 bytes, which take a second hash in each of methods 7 to 9
+
+
+LATER = 6  # exchanges behind the first, for each side to ask for
+WAYS = [(9, (6, 9, 1), ()), (6, (9, 5), ("--no-strict",))]  # as rekey.WAYS
+TURNS = 8, 9, 7
+
+
+def again(answer, method):
+    """How many later exchanges there were, behind the service, with no data."""
+    code, out, err = answer
+    need(code == 0 and err == "", f"exit {code}: {err.strip()}")
+    rest, later = later_exchanges(out)
+    completed((0, rest, ""), method, ED25519)
+    need([x.method for x in later] == list(TURNS) * (LATER // len(TURNS)) and all(x.by == "us" for x in later), "later exchanges are others:", out)
+    return len(later)
 
 
 def command_line(programs, dock):
@@ -40,27 +56,33 @@ def with_sshd(programs, dock, port):
         need(completed(answer, 9, host_key)["known"] == "yes", "known")
     completed(dock.run("client", "127.0.0.1", port, "--host-keys", ED25519, *LONG_KEYS), 9, ED25519)
     changed = changed_replies(dock, "hybrids", port, times=24, pairs=[(9, ED25519)])
-    return f"{len(host_keys) + 1} exchanges, {changed - 1} changed replies refused"
+    allowed, options = programs.login(ED25519)
+    limited = programs.sshd([*allowed, "RekeyLimit 16"], "sshd_16")
+    later = [rekey.as_client(dock, limited, way, options, "--rekey", LATER, "--rekeyed", LATER)[0] for way in WAYS]
+    return f"{len(host_keys) + 1} exchanges, {changed - 1} changed replies refused, {sum(map(len, later))} later exchanges in {len(later)} connections"
 
 
 def with_ssh(programs, dock):
     for host_key, options in ((ED25519, LONG_KEYS), ("ecdsa-sha2-nistp256", ()), ("rsa-sha2-512", ())):
         serve_ssh(programs, dock, 9, host_key, programs.key(host_key), *options)
-    return "3 exchanges"
+    later = [rekey.as_server(programs, dock, way, 10000, "--rekey", LATER, RekeyLimit="1K")[0] for way in WAYS]
+    need(all(len(found) > LATER for found in later), "ssh asked for no exchange")
+    return f"3 exchanges, and {sum(map(len, later))} later ones in {len(later)} connections"
 
 
 def with_plink(programs, dock, suite):
     """plink takes what a server offers of its methods: the server has one. It goes no further than the first service, and says so."""
     plink = [*suite.command("usr/bin/plink"), "-ssh", "-batch", "-noagent", "-hostkey", programs.fingerprint(ED25519), "-l", "nobody"]
-    env = dict(os.environ, HOME=programs.folder)
+    env, later = dict(os.environ, HOME=programs.folder), 0
     for method in HYBRIDS:
-        process, port = dock.serve("--host-key", programs.key(ED25519), "--methods", METHODS[method], *LONG_KEYS)
+        process, port = dock.serve("--host-key", programs.key(ED25519), "--methods", METHODS[method], *LONG_KEYS, "--rekey", LATER, "--turns",
+                                   rekey.names(TURNS))
         code, out, err = programs.run([*plink, "-P", str(port), "127.0.0.1", "true"], env=env)
         answer = dock.end(process)
         need(answer[0] == 0, f"method {method}: {answer[2].strip()} (plink: {err.strip()})")
         need("the service is accepted" in err, f"method {method}: plink does not read the DISCONNECT behind SERVICE_ACCEPT: {err.strip()}")
-        completed(answer, method, ED25519)
-    return "an exchange in each of methods 7 to 9"
+        later += again(answer, method)
+    return f"an exchange in each of methods 7 to 9, and {later} later ones"
 
 
 def with_libssh(programs, dock, peer):
@@ -86,6 +108,7 @@ def with_libssh(programs, dock, peer):
 
 def with_dock(programs, dock):
     """Both sides have the same H."""
+    later = 0
     for method in HYBRIDS:
         process, port = dock.serve("--host-key", programs.key(ED25519), "--count", TIMES)
         own = []
@@ -95,7 +118,13 @@ def with_dock(programs, dock):
         need(code == 0, f"method {method}: {err.strip()}")
         theirs = [line[2:] for line in out.splitlines() if line.startswith("H ")]
         need(own == theirs and len(set(own)) == TIMES, f"method {method}: H is {own} and {theirs}")
-    return f"{TIMES} exchanges in each of methods 7 to 9"
+
+        process, port = dock.serve("--host-key", programs.key(ED25519), "--echo")
+        own = rekey.as_client(dock, port, (method, TURNS, ()), ["--login", "nobody"], "--rekey", LATER, by="us")[0]
+        code, out, err = dock.end(process)
+        need(code == 0 and [x.h for x in own] == [x.h for x in later_exchanges(out)[1]], f"method {method}: H of later exchanges differ: {err.strip()}")
+        later += len(own)
+    return f"{TIMES} exchanges in each of methods 7 to 9, and {later} later ones"
 
 
 P256 = Ecdsa(b"seed").point

@@ -18,10 +18,11 @@ import tempfile
 import time
 
 sys.dont_write_bytecode = True
+import rekey
 from forms import all_forms
 from hostile import FAULT, OWN, PUBLIC, SIGNER, STRICT, Turn, against_client, against_server, all_sessions, changed_replies, judge, slow_peers
 from peer import DEBUG, IGNORE, INIT, NEWKEYS, REPLY, SEALS, UNIMPLEMENTED, kexinit, packet, string
-from programs import METHODS, Dock, Failure, Programs, end_on_signals, need, results
+from programs import DIGESTS, METHODS, Dock, Failure, Programs, end_on_signals, logged, need, results
 from sealed import CIPHERS, MACS, SEALED, longest_word, served
 
 EXTRAS_C, STRICT_C = b",ext-info-c", b",ext-info-c" + STRICT % b"c"
@@ -44,7 +45,7 @@ def completed(answer, method, host_key):
     found = results(out)
     need(found["method"] == f"{method} {METHODS[method]}", "method", found["method"])
     need(found["host key"].split()[0] == host_key, "host key", found["host key"])
-    need(len(found["H"]) == {1: 64, 2: 64, 3: 128, 4: 64, 5: 96, 6: 128, 7: 64, 8: 96, 9: 64}[method], "H", found["H"])
+    need(len(found["H"]) == 2 * DIGESTS[method], "H", found["H"])
     return found
 
 
@@ -61,6 +62,8 @@ def command_line(programs, dock):
              ("client", "h", "1", "--count", "1"), ("client", "h", "1", "--timeout", "0"), ("client", "h", "1", "--timeout"),
              ("server", "0", "--x-begins", "0"), ("server", "0", "--x-begins", "00zz"), ("server", "0", "--known-hosts", "f"),
              ("client", "h", "1", "--ciphers", "aes192-ctr"), ("client", "h", "1", "--ciphers", ""), ("server", "0", "--ciphers", "aes128-ctr/"),
+             ("client", "h", "1", "--rekey", "x"), ("client", "h", "1", "--turns", "curve25519-sha256,,"), ("client", "h", "1", "--echo"),
+             ("client", "h", "1", "--key", programs.key("ssh-ed25519")), ("client", "h", "1", "--rekeyed", "1"), ("server", "0", "--login", "user"),
              ("client", "h", "1", "--macs", "hmac-sha1"), ("client", "h", "1", "--macs", "hmac-sha2-256/hmac-sha2-512/hmac-sha2-512")]
     if not hybrids:
         wrong += [("client", "h", "1", "--methods", METHODS[method]) for method in (7, 8, 9)]
@@ -103,14 +106,6 @@ def shown(out):
     need(line["<-REPLY"][1:] == [0, strings + 36 + 55 + 36], "--show: REPLY", line["<-REPLY"])
     need(line["secret"][1] == 0 and 0 < line["secret"][2] - line["<-REPLY"][2] <= 37, "--show: secret", line["secret"])
     need(line["->SERVICE_REQUEST"] == line["<-SERVICE_ACCEPT"] == [17, None, None], "--show: service", line["<-SERVICE_ACCEPT"])
-
-
-def logged(programs, words, since=0, count=1):
-    """sshd may write a line after it has closed."""
-    until = time.monotonic() + 5
-    while (found := programs.log()[since:].count(words)) < count and time.monotonic() < until:
-        time.sleep(0.02)
-    need(found == count, f"sshd has '{words}' {found} times in its log, and not {count}")
 
 
 def as_client(programs, dock, port):
@@ -402,12 +397,15 @@ def main():
                     part("2, server for ssh", as_server, programs, dock)
                     part("5, guessed packets", guesses, programs, dock)
                     part("6, sealed packets", sealed_packets, programs, dock, sshd)
+                    part("8, later exchanges with OpenSSH", rekey.with_openssh, programs, dock)
                     if options.dock_wrong:
-                        part("7, wrong keys", wrong_keys, programs, Dock(programs, options.dock_wrong), sshd)
-                    if options.dock_asan:
-                        part("4, hostile peers, under the sanitizers", hostile_peers, programs, Dock(programs, options.dock_asan), options.seed, sshd)
-                    else:
-                        part("4, hostile peers", hostile_peers, programs, dock, options.seed, sshd)
+                        wrong = Dock(programs, options.dock_wrong)
+                        part("7, wrong keys", wrong_keys, programs, wrong, sshd)
+                        part("9, keys of another identifier", rekey.wrong_identifiers, programs, wrong)
+                    checked, how = (Dock(programs, options.dock_asan), ", under the sanitizers") if options.dock_asan else (dock, "")
+                    part(f"10, exact peers in later exchanges{how}", rekey.exact_peers, programs, checked)
+                    part(f"11, hostile peers in later exchanges{how}", rekey.hostile_peers, programs, checked, options.seed)
+                    part(f"4, hostile peers{how}", hostile_peers, programs, checked, options.seed, sshd)
                     for (method, begins), draw in zip(BEGINNINGS, draws):
                         try:
                             draw.result()

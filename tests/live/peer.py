@@ -69,6 +69,7 @@ class Peer:
         self.sent, self.got = 0, 0  # packets
         self.opens, self.closes = None, None  # a Seal for each direction
         self.past, self.done = False, False  # both NEWKEYS have gone by; and all behind them
+        self.granted = False  # the service, too
         sock.settimeout(timeout)
         sock.setsockopt(socket.IPPROTO_TCP, socket.TCP_NODELAY, 1)
 
@@ -121,12 +122,17 @@ class Peer:
 
     def seal(self, past, strict=False, seals=SEALS):
         """dock's NEWKEYS was the last packet read, and what follows it is sealed. past: this side's went out, too."""
-        k = unsigned_mpint(self.x)
-        ways = [Seal(*names, lambda letter, length: derived(k, self.h, letter, length), letters)
-                for names, letters in zip(seals, (b"ACE", b"BDF"))]
-        self.opens, self.closes = ways if self.serves else reversed(ways)
+        self.id = self.h
+        self.opens, self.closes = self.new_seals(seals)
         self.opens.sequence, self.closes.sequence = (0, 0) if strict else (self.got, self.sent)
         self.past, self.sealed_at, self.opened = past, self.at, []
+
+    def new_seals(self, seals=SEALS):
+        """What opens and what closes packets by the keys of the exchange that was made last."""
+        k, h, identifier = unsigned_mpint(self.x), self.h, self.id
+        ways = [Seal(*names, lambda letter, length: derived(k, h, letter, length, identifier), letters)
+                for names, letters in zip(seals, (b"ACE", b"BDF"))]
+        return ways if self.serves else ways[::-1]
 
     def payloads(self):
         """All packets that came, sealed or not; None if they are not whole or do not open."""
@@ -382,9 +388,9 @@ def exchange_hash(v_c, v_s, i_c, i_s, k_s, c, s, x):
 
 # ---- the keys of the SHA-256 methods (RFC 4253, 7.2)
 
-def derived(k, h, letter, length):
-    """k: with its four length bytes. The session identifier is H of the first exchange, and there is no other."""
-    out = hashlib.sha256(k + h + letter + h).digest()
+def derived(k, h, letter, length, identifier):
+    """k: with its four length bytes. The session identifier is H of the first exchange."""
+    out = hashlib.sha256(k + h + letter + identifier).digest()
     while len(out) < length:
         out += hashlib.sha256(k + h + out).digest()
     return out[:length]

@@ -2,6 +2,7 @@
 import base64
 import copy
 import os
+import pwd
 import re
 import shlex
 import shutil
@@ -88,7 +89,7 @@ class Programs:
         """A process of its own group, so that stopping it stops its children too."""
         with self.lock:
             need(not self.stopped, "stopped")
-            process = subprocess.Popen(arguments, stdin=subprocess.DEVNULL, start_new_session=True, **more)
+            process = subprocess.Popen(arguments, start_new_session=True, **{"stdin": subprocess.DEVNULL, **more})
             self.started.append(process)
         return process
 
@@ -160,8 +161,8 @@ class Programs:
 
     # ---- OpenSSH
 
-    def sshd(self, lines=()):
-        """An sshd of this user on the loopback; its port. It writes to sshd.log. lines: of its configuration, ahead of those here."""
+    def sshd(self, lines=(), name="sshd"):
+        """An sshd of this user on the loopback; its port. It writes to NAME.log. lines: of its configuration, ahead of those here."""
         if self.suite:
             command = self.suite.command("usr/sbin/sshd")
             lines = [*lines, f"SshdSessionPath {self.suite.script(self, 'usr/lib/openssh/sshd-session')}",
@@ -179,8 +180,8 @@ class Programs:
         text += ["MaxStartups 1000:100:2000"] + (["PerSourcePenalties no"] if (major, minor) >= (9, 8) else [])
         for _ in range(5):  # another program may take the port first
             port = free_port()
-            config = self.write("sshd.conf", "\n".join(text + [f"Port {port}"]) + "\n")
-            with open(self.path("sshd.log"), "wb") as log:
+            config = self.write(f"{name}.conf", "\n".join(text + [f"Port {port}"]) + "\n")
+            with open(self.path(f"{name}.log"), "wb") as log:
                 process = self.start([*command, "-D", "-e", "-f", config], stdout=log, stderr=log)
             for _ in range(100):
                 if process.poll() is not None:
@@ -190,24 +191,39 @@ class Programs:
                     return port
                 except OSError:
                     time.sleep(0.05)
-        raise Failure("sshd does not start: " + (self.log().strip().split("\n") or [""])[-1])
+        raise Failure("sshd does not start: " + (self.log(name).strip().split("\n") or [""])[-1])
 
-    def log(self):
-        with open(self.path("sshd.log"), errors="replace") as f:
+    def login(self, host_key):
+        """Who this user's sshd lets in by that key, for its configuration; and dock's options for it."""
+        allowed = self.write(f"allowed_{host_key}", self.public(host_key) + "\n")
+        return [f"AuthorizedKeysFile {allowed}", "PermitUserRC no"], ["--login", pwd.getpwuid(os.geteuid()).pw_name, "--key", self.key(host_key)]
+
+    def log(self, name="sshd"):
+        with open(self.path(f"{name}.log"), errors="replace") as f:
             return f.read()
 
     def ssh_version(self):
         return subprocess.run([*self.ssh_command, "-V"], capture_output=True, text=True).stderr
 
-    def ssh(self, port, method, host_key, known_hosts, **more):
-        """ssh against a server on the loopback; it ends with an error, because the first service is all there is. more: its options."""
+    def ssh(self, port, method, host_key, known_hosts, data=None, **more):
+        """ssh against a server on the loopback; it ends with an error where the first service is all there is. data: a file for its standard input;
+        more: its options."""
         options = {
             "KexAlgorithms": METHODS[method], "HostKeyAlgorithms": host_key, "UserKnownHostsFile": known_hosts,
             "GlobalKnownHostsFile": "/dev/null", "StrictHostKeyChecking": "yes", "BatchMode": "yes", "IdentityAgent": "none",
             "IdentityFile": "/dev/null", "UpdateHostKeys": "no", **more,
         }
         flags = [word for name, value in options.items() for word in ("-o", f"{name}={value}")]
-        return self.run([*self.ssh_command, "-F", "/dev/null", "-p", str(port), *flags, "127.0.0.1", "true"], seconds=150)
+        with open(data or os.devnull, "rb") as coming:
+            return self.run([*self.ssh_command, "-F", "/dev/null", "-p", str(port), *flags, "127.0.0.1", "true"], seconds=150, stdin=coming)
+
+
+def logged(programs, words, since=0, count=1, name="sshd"):
+    """sshd may write a line after it has closed."""
+    until = time.monotonic() + 5
+    while (found := programs.log(name)[since:].count(words)) < count and time.monotonic() < until:
+        time.sleep(0.02)
+    need(found == count, f"sshd has '{words}' {found} times in its log, and not {count}")
 
 
 class Dock:
@@ -239,18 +255,50 @@ class Dock:
             raise Failure("dock server: " + process.communicate()[1].decode("ascii", "replace").strip())
         return process, int(line.split()[2])
 
-    def end(self, process, seconds=60):
+    def end(self, process, seconds=60, each=None):
+        """each: is given each line of standard output as it comes, however long that takes."""
+        came = b""
+        for line in process.stdout if each else ():
+            came += line
+            each(line.decode("ascii", "replace"))
         try:
             out, err = process.communicate(timeout=seconds)
+            out = came + out
         except subprocess.TimeoutExpired:
             raise Failure(f"dock: no end after {seconds} s") from None
         self.programs.finished(process)
         return process.returncode, out.decode("ascii", "replace"), err.decode("ascii", "replace")
 
 
+DIGESTS = {1: 32, 2: 32, 3: 64, 4: 32, 5: 48, 6: 64, 7: 32, 8: 48, 9: 32}
+
+
+class Later:
+    """An exchange behind the first: who asked for it, method and H."""
+    def __init__(self, by, method, h):
+        self.by, self.method, self.h = by, int(method), h
+
+
+def later_exchanges(out):
+    """The output without the lines of later exchanges, and these exchanges. Each has another H, of its method's length; the identifier is the first
+    H in all of them, and they are counted one by one."""
+    form = r"again by (us|the peer) method (\d) (\S+)\nH ([0-9a-f]+)\nexchange (\d+) identifier ([0-9a-f]+)\n"
+    first = re.search(r"^H ([0-9a-f]+)$", out, re.M)
+    need(first, "no H in the output")
+    found, seen = [], {first[1]}
+    for by, method, name, h, count, identifier in re.findall(form, out):
+        need(int(count) == len(found) + 2, f"exchange {count} follows {len(found) + 1}")
+        need(identifier == first[1], f"the identifier of exchange {count} is {identifier} and not {first[1]}")
+        need(METHODS[int(method)] == name and len(h) == 2 * DIGESTS[int(method)] and h not in seen, f"exchange {count}: method {method} {name}, H {h}")
+        seen.add(h)
+        found.append(Later(by, method, h))
+    return re.sub(form, "", out), found
+
+
 def results(out, service=True):
     """The lines of a completed exchange, and of the service behind it, by name; fails on any line more or less. Lines of --show are left out."""
-    found, names = {}, ["method", "host key", "known", "H", "X begins", "to server", "to client", "strict", "NEWKEYS"] + ["service"] * service
+    names = ["method", "H", "exchange", "host key", "known", "X begins", "to server", "to client", "strict", "NEWKEYS"] + ["service"] * service
+    found = {}
     for line in out.splitlines():
         if line[:2] in ("->", "<-", "  "):
             continue
@@ -258,6 +306,7 @@ def results(out, service=True):
         need(name is not None and name not in found, "unexpected line of output:", line)
         found[name] = line[len(name) + 1:]
     need(found.get("NEWKEYS") == "sent and received", "no NEWKEYS in the output")
+    need(found.get("exchange") == f"1 identifier {found.get('H')}", "the identifier is not H:", out)
     need(not service or found.get("service") == "ssh-userauth", "no service in the output")
     need(set(found) | {"known"} == set(names), "lines missing in the output")
     return found

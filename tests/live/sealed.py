@@ -140,7 +140,7 @@ def bad_padding(p, rng):
 
 def not_due(p, rng):
     other = service(REQUEST if p.serves else ACCEPT)
-    payloads = [b"", p.due[:1], p.due[:-1], p.due + b"\0", other, bytes([0]) + p.due[1:], bytes([NEWKEYS]), kexinit(KEX, b"ssh-ed25519"),
+    payloads = [b"", p.due[:1], p.due[:-1], p.due + b"\0", other, bytes([0]) + p.due[1:], bytes([NEWKEYS]), bytes([NEWKEYS, 0]),
                 bytes([7]) + bytes(4), bytes([30]) + string(bytes(32)), bytes([50]), bytes([255])]
     p.must = PROTOCOL_ERROR, "is due"
     p.send(p.closes.close(rng.case(payloads)))

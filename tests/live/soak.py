@@ -1,10 +1,12 @@
 #!/usr/bin/env python3
-"""Many exchanges of dock's client with one sshd, methods 1 and 4 in turn.
+"""Many exchanges: of dock's client with one sshd, methods 1 and 4 in turn, a connection each; and in one connection with sshd and with ssh, asked for
+by either side between data, five methods in turn.
 
-usage: soak.py --dock PROGRAM [--count N] [--workers N]
+usage: soak.py --dock PROGRAM [--count N] [--later N] [--workers N]
 
 Every exchange must be completed: a K with a zero too many or too few makes another H, and the server's signature fails. Counts the
-X that begin with 00, which are the ones where that is decided. Exits 1 with one line at the first failure.
+X that begin with 00, which are the ones where that is decided. In one connection the identifier must stay the first H, and all data must come
+back. Exits 1 with one line at the first failure.
 """
 import argparse
 import collections
@@ -15,6 +17,7 @@ import tempfile
 import time
 
 sys.dont_write_bytecode = True
+import rekey
 from programs import METHODS, Dock, Failure, Programs, end_on_signals, need, results
 
 SHOWN_EVERY = 250
@@ -60,10 +63,38 @@ def soak(programs, dock, count, workers):
     print("soak: no signature failed")
 
 
+def later(programs, dock, count):
+    """Exchanges in one connection, in four ways."""
+    allowed, options = programs.login("ssh-ed25519")
+    limits = {limit: programs.sshd(allowed + [f"RekeyLimit {limit}", "LogLevel ERROR"], f"sshd_{limit}") for limit in ("default", "16")}
+    long, way = ("--timeout", 3600), rekey.WAYS[1]
+    for name, run in (
+            ("asked of sshd", lambda each: rekey.as_client(dock, limits["default"], way, options, *long, "--rekey", count, by="us", each=each)),
+            ("asked by sshd", lambda each: rekey.as_client(dock, limits["16"], way, options, *long, "--rekeyed", count, by="the peer", each=each)),
+            ("asked of ssh", lambda each: rekey.as_server(programs, dock, way, 400 * count, *long, "--rekey", count, by="us", each=each)),
+            ("asked by ssh", lambda each: rekey.as_server(programs, dock, way, 1024 * count, *long, by="the peer", each=each, RekeyLimit="16"))):
+        began = time.monotonic()
+
+        def each(line):
+            if line.startswith("exchange ") and int(line.split()[1]) % SHOWN_EVERY == 0:
+                done = int(line.split()[1])
+                rate = done / (time.monotonic() - began)
+                print(f"soak: {done} exchanges in one connection, {name}, identifier {line.split()[3][:16]}..; {rate:.0f} a second", flush=True)
+
+        try:
+            found, size, between = run(each)
+            need(len(found) >= count, f"{len(found)} exchanges behind the first are fewer than {count}")
+        except Failure as e:
+            raise Failure(f"{name}: {e}") from None
+        print(f"soak: {len(found)} exchanges behind the first in one connection, {name}: one identifier, {size} bytes there and back, {between} messages "
+              f"between KEXINITs ({time.monotonic() - began:.1f} s)", flush=True)
+
+
 def main():
     options = argparse.ArgumentParser(description=__doc__.split("\n")[0])
     options.add_argument("--dock", required=True)
     options.add_argument("--count", type=int, default=2000)
+    options.add_argument("--later", type=int, default=2000, help="exchanges behind the first, in one connection")
     options.add_argument("--workers", type=int, default=2)
     options = options.parse_args()
     end_on_signals()
@@ -71,6 +102,7 @@ def main():
         programs = Programs(folder)
         try:
             soak(programs, Dock(programs, options.dock), options.count, options.workers)
+            later(programs, Dock(programs, options.dock), options.later)
         except (Failure, OSError, subprocess.SubprocessError) as e:
             print(f"soak: FAILED: {e}", file=sys.stderr)
             return 1

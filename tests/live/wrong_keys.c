@@ -3,7 +3,9 @@
      A to F      that one key with the letter of the other direction, from the library
      no-length   all six here, from K without its four length bytes
      lead-zero   all six here, from K with a zero byte too many at its front
-     right       all six here, from K as it is: what the others differ from in that alone */
+     new-id      all six here, with each exchange's own H for the session identifier
+     id-length   all six here, with as many bytes of the identifier as the running method's digest has, zeros where it has fewer
+     right       all six here, from K and the first H as they are: what the others differ from in that alone */
 #include "castulfrisa.h"
 #include <stdlib.h>
 #include <string.h>
@@ -23,8 +25,8 @@ uint64_t __real_castulfrisa_sign(
 
 /* ---- what goes into the keys, seen as it goes by */
 
-static uint8_t seen_h[CASTULFRISA_H_SIZE], seen_k[CASTULFRISA_K];
-static uint64_t seen_k_len;
+static uint8_t seen_h[CASTULFRISA_H_SIZE], first_h[CASTULFRISA_H_SIZE], seen_k[CASTULFRISA_K];
+static uint64_t seen_k_len, first_h_len;
 
 static void see_k(const uint8_t *k, uint64_t len)
 {
@@ -75,14 +77,14 @@ static uint64_t hashed(uint64_t kind, const part *parts, size_t count, uint8_t d
     return number == CASTULFRISA_OK ? castulfrisa_hash_finish(hash, sizeof hash, digest) : number;
 }
 
-static uint64_t derive_from(part k, uint64_t kind, uint64_t letter, uint64_t length, uint8_t *key)
+static uint64_t derive_from(part k, part id, uint64_t kind, uint64_t letter, uint64_t length, uint8_t *key)
 {
     const uint8_t name = (uint8_t)letter;
     uint8_t made[256], digest[CASTULFRISA_H_SIZE];
     uint64_t count = 0, number = CASTULFRISA_OK;
     const part h = {seen_h, kind};
     while (number == CASTULFRISA_OK && count < length) {
-        const part first[] = {k, h, {&name, 1}, h}, more[] = {k, h, {made, count}};
+        const part first[] = {k, h, {&name, 1}, id}, more[] = {k, h, {made, count}};
         number = count == 0 ? hashed(kind, first, 4, digest) : hashed(kind, more, 3, digest);
         memcpy(made + count, digest, (size_t)kind);
         count += kind;
@@ -96,19 +98,29 @@ uint64_t __wrap_castulfrisa_derive(
 {
     const char *how = getenv("DOCK_KEYS");
     uint8_t longer[CASTULFRISA_K + 1] = {0, 0, 0, (uint8_t)(seen_k_len - 4 + 1), 0};
+    uint8_t id[CASTULFRISA_H_SIZE];
     castulfrisa_progress told;
+    castulfrisa_session session;
     castulfrisa_sizes sizes;
     if (how == NULL || castulfrisa_state(exchange, exchange_len, &told) != CASTULFRISA_OK
+        || castulfrisa_session_id(exchange, exchange_len, &session, id) != CASTULFRISA_OK
         || castulfrisa_method_sizes(told.method, &sizes) != CASTULFRISA_OK || seen_k_len < 5) return CASTULFRISA_NOT_DUE;
     if (length > 128 || key_len < length) return CASTULFRISA_BAD_INPUT;
+    if (session.completed == 1) {
+        memcpy(first_h, seen_h, sizeof first_h);
+        first_h_len = sizes.digest_len;
+    }
+    const part k = {seen_k, seen_k_len}, first = {first_h, first_h_len};
 
     if (how[0] >= 'A' && how[0] <= 'F') {
         if (letter == (uint64_t)how[0]) letter = ((letter - 'A') ^ 1) + 'A';
         return __real_castulfrisa_derive(exchange, exchange_len, letter, length, key, key_len);
     }
-    if (strcmp(how, "right") == 0) return derive_from((part){seen_k, seen_k_len}, sizes.digest_len, letter, length, key);
-    if (strcmp(how, "no-length") == 0) return derive_from((part){seen_k + 4, seen_k_len - 4}, sizes.digest_len, letter, length, key);
+    if (strcmp(how, "right") == 0) return derive_from(k, first, sizes.digest_len, letter, length, key);
+    if (strcmp(how, "new-id") == 0) return derive_from(k, (part){seen_h, sizes.digest_len}, sizes.digest_len, letter, length, key);
+    if (strcmp(how, "id-length") == 0) return derive_from(k, (part){first_h, sizes.digest_len}, sizes.digest_len, letter, length, key);
+    if (strcmp(how, "no-length") == 0) return derive_from((part){k.at + 4, k.len - 4}, first, sizes.digest_len, letter, length, key);
     if (strcmp(how, "lead-zero") != 0) return CASTULFRISA_NOT_DUE;
     memcpy(longer + 5, seen_k + 4, (size_t)seen_k_len - 4);
-    return derive_from((part){longer, seen_k_len + 1}, sizes.digest_len, letter, length, key);
+    return derive_from((part){longer, seen_k_len + 1}, first, sizes.digest_len, letter, length, key);
 }
