@@ -6,7 +6,6 @@ use mathlib.Core.List.{List, []}
 use mathlib.Core.Bool.{Bool, true, false, cond, false≢true}
 use lib.ListN.{length}
 use borrow.Author.Tests.{ne-eqb}
-use Rattle.limits.specs.Limits.{hSize}
 use Rattle.buffers.specs.Bytes.{zeros}
 use Rattle.exchange.specs.Numbers.{isFault, Kind, byKind}
 use Rattle.exchange.specs.Record.{ended}
@@ -15,13 +14,11 @@ use Rattle.exchange.specs.Again.{againNumber, againRoom}
 use Rattle.exchange.specs.declared.Session.{Session}
 use Rattle.exchange.proofs.KindLaws.{kind-fault}
 use Rattle.exchange.proofs.Simulation.{dead-number, dead-again}
-use Rattle.stored.specs.Stored.{encoded, decoded, fits, byFit}
+use Rattle.exchange.specs.declared.Stage.the-variants.{Failed}
+use Rattle.stored.specs.Stored.{stageOf, encoded, decoded, fits, byFit}
 use Rattle.stored.proofs.StoredLaws.{fit-taken}
-use Rattle.stored.proofs.RoundTrip.{SmallSession}
-use Rattle.lent.specs.Lent.{Left, left, toldSize, writes, bytesAfter, stepLeft, untouched, lentCall, againLeft, lentAgain}
+use Rattle.lent.specs.Lent.{left, toldSize, writes, bytesAfter, stepLeft, untouched, lentCall, againLeft, lentAgain}
 use Rattle.lent.proofs.LentLaws.{call-refused, refused-stays, tells-none, outputs-stay}
-use Rattle.lent.proofs.Kept.{ended-storable}
-use Rattle.lent.proofs.AsStep.{as-called, as-again}
 
 -- ---- the effects
 
@@ -66,20 +63,28 @@ module _ (b room : List ℕ) (q : Call) (outs : List (List ℕ)) where
             ∙ (λ i. left (sym e i) (tells-none d room q z i) (x i) (r i) (outputs-stay (number d room q) outs (writes d room q) z i)),
       )
 
--- what a fault or a refused start left is answered 1 by every step
-module _ (n role m : ℕ) (s : Session) (h : SmallSession s) (l : length (s .id) ≡ hSize) (room : List ℕ) where
+-- what a fault or a refused start left is answered 1 by every step, whatever its session
+module _ (n role m : ℕ) (s : Session) (room : List ℕ) where
+  failed-there : decoded (encoded (ended n role m s)) .stage ≡ Failed n
+  unfolding decoded encoded ended stageOf
+  failed-there = refl
+
   pub ended-silent : (q : Call) (outs : List (List ℕ)) → lentCall (encoded (ended n role m s)) room q outs .number ≡ 1
-  unfolding ended
-  ended-silent q outs =
-      sym (ap (λ (y : Left). y .number) (as-called (ended n role m s) room q outs (ended-storable n role m s h l)))
-      ∙ dead-number (ended n role m s) room n q refl
+  unfolding byFit
+  ended-silent q outs = number-is (encoded (ended n role m s)) room q outs ∙ by-fit (fits (encoded (ended n role m s)))
+    where
+      by-fit : (t : Bool) → cond t (number (decoded (encoded (ended n role m s))) room q) 1 ≡ 1
+      by-fit true = dead-number (decoded (encoded (ended n role m s))) room n q failed-there
+      by-fit false = refl
 
   -- and where it would begin again
   pub ended-over : (m′ : ℕ) (ic is : List ℕ) → lentAgain (encoded (ended n role m s)) room m′ ic is .number ≡ 1
-  unfolding ended
-  ended-over m′ ic is =
-      sym (ap (λ (y : Left). y .number) (as-again (ended n role m s) room m′ ic is (ended-storable n role m s h l)))
-      ∙ dead-again (ended n role m s) (length room) n m′ ic is refl
+  unfolding lentAgain againLeft byFit
+  ended-over m′ ic is = by-fit (fits (encoded (ended n role m s)))
+    where
+      by-fit : (t : Bool) → cond t (againLeft (encoded (ended n role m s)) (decoded (encoded (ended n role m s))) room m′ ic is) (untouched (encoded (ended n role m s)) room 0 []) .number ≡ 1
+      by-fit true = dead-again (decoded (encoded (ended n role m s))) (length room) n m′ ic is failed-there
+      by-fit false = refl
 
 -- a beginning that is refused, by any number: every lent byte is as it was
 pub again-stays : (b room : List ℕ) (m : ℕ) (ic is : List ℕ) → let n = lentAgain b room m ic is .number in ¬ (n ≡ 0) → lentAgain b room m ic is ≡ left n [] b room []

@@ -2,7 +2,7 @@
 -- derives the book's keys. Assumes nothing.
 use Prim.Native.Nat.{ℕ, _≤_}
 use mathlib.Core.Path.{_≡_, refl, sym, ap, _∙_}
-use mathlib.Core.List.{List}
+use mathlib.Core.List.{List, []}
 use mathlib.Core.Bool.{Bool, true, false, _&&_}
 use native.Mathlib.Omega.{arith}
 use lib.ListN.{length, take, drop}
@@ -19,7 +19,7 @@ use Rattle.wire.proofs.CauseLaws.{if-fails, unless-none, unless-holds, unless-f
 use Rattle.methods.specs.Rows.{rowOf}
 use Rattle.exchange.specs.Record.{isComplete, completed}
 use Rattle.exchange.specs.Steps.{outputAfter}
-use Rattle.exchange.specs.Book.{Book, hasAll}
+use Rattle.exchange.specs.Book.{Book, hasAll, finished}
 use Rattle.exchange.specs.declared.Exchange.{Exchange}
 use Rattle.exchange.proofs.CauseFacts.{method-row}
 use Rattle.exchange.proofs.DueLaws.{completed-known}
@@ -29,7 +29,7 @@ use Rattle.exchange.proofs.HandedLaws.{complete-ready}
 use Rattle.due.proofs.FitLaws.{completed-not}
 use Rattle.keys.specs.Keys.{keyOf}
 use Rattle.keys.specs.Derived.{deriveFed, deriveCause, keyIn}
-use Rattle.keys.specs.KeysTold.{keyTold, causeTold}
+use Rattle.keys.specs.KeysTold.{digestTold, idTold, keyTold, causeTold}
 use Rattle.keys.proofs.KeyLaws.{length-keyOf, key-beginning}
 
 -- ---- keyIn
@@ -116,3 +116,8 @@ module _ (room : List ℕ) (b : Book) (e : Exchange) (room′ : List ℕ) (s : S
             sym (output-refused _ out (keyIn e letter len) (λ z. let v : ⊥ = omega (arith, n, z) in v))
                 ∙ output-refused _ out (keyTold b letter len) (λ z. let v : ⊥ = omega (arith, m, z) in v),
           )
+
+-- a first exchange's identifier is its own H, and so its keys are those of request #105
+pub first-identifier : (b : Book) → b .past ≡ [] → hasAll b ≡ true → idTold b ≡ digestTold b
+unfolding finished
+first-identifier b p h = rw (h, p)
