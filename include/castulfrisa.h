@@ -17,7 +17,7 @@
    - An output is written from its first byte on. Bytes past those that are counted, or of a key asked for, stay as they were; but the output
      for K gets all CASTULFRISA_K bytes, zeros after K.
    - H, a digest and the session identifier have CASTULFRISA_H_SIZE bytes, which every answer writes: zeros after the digest, all zeros on a
-     refusal.
+     refusal. The identifier is told as the exchange has it: zeros after the digest in every exchange that the library made.
 
    ANSWERS
    - A call returns its number: 0, or the first cause against it (enum castulfrisa_number; castulfrisa_text has a sentence for each).
@@ -32,8 +32,8 @@
    - It is a buffer of CASTULFRISA_EXCHANGE bytes, the caller's, which only the library reads and writes: castulfrisa_start makes it,
      every step changes it in place. Keep one, and no copy: a copy from before a fault is an exchange that has not failed, and it has K.
      Bytes that no exchange has, and buffers of another length, are answered 1 and stay.
-   - The room is the caller's buffer of at least CASTULFRISA_ROOM bytes, the same at every call of one exchange and no other's, and nobody
-     writes to it in between. It begins with the fields of the hash input so far.
+   - The room is the caller's buffer of at least CASTULFRISA_ROOM bytes, the same at every call of one connection and no other's, and nobody
+     writes to it in between, but to wipe what may be wiped, below. It begins with the fields of the hash input so far.
    - A complete exchange is what castulfrisa_derive takes the keys from, and behind the last of them what castulfrisa_again begins the
      connection's next exchange with, in the same two buffers. It keeps the session identifier, which is H of the first exchange completed
      since castulfrisa_start, and how many were completed: no later exchange changes the identifier, and a fault neither.
@@ -307,7 +307,7 @@ CASTULFRISA_MUST_USE uint64_t castulfrisa_choose(
    client: start, own_c, read_reply, take_secret, verdict.   server: start, read_init, take_secret, sign.
    A connection's later exchanges: again in start's place, once the keys are derived, and the same steps.
    Every step is answered 1 for bytes that no exchange has and while it is not due, then 3 for a room below CASTULFRISA_ROOM, then by its
-   own causes. */
+   own causes; start and again, which are no steps, in the order that stands with them. */
 
 /* Starts an exchange in role (enum castulfrisa_role) and method, in an exchange buffer that may hold anything. V_C, V_S: the version
    lines without CR and LF. I_C, I_S: the two KEXINIT payloads. All four go into the room; the rest of it stays.
@@ -409,9 +409,10 @@ CASTULFRISA_MUST_USE uint64_t castulfrisa_reply_signature(
    number that ended it is no exchange's, and all of it is 0. Whether the rest fits, the next call judges. */
 CASTULFRISA_MUST_USE uint64_t castulfrisa_state(const uint8_t *exchange, uint64_t exchange_len, castulfrisa_progress *told);
 
-/* The session identifier, which user authentication signs, and how many exchanges were completed, at every stage, also of a failed one; zeros
-   until the first is complete. The first id_len bytes of id are it.
-   1: no exchange's bytes, or the identifier's length does not go with the count (0 where that is 0, else 32, 48 or 64). */
+/* The session identifier, which user authentication signs, and how many exchanges were completed, at every stage, also of a failed one, as the
+   bytes have them: zeros until the first is complete. The first id_len bytes of id are it.
+   1: no exchange's bytes, or the identifier's length does not go with the count (0 where that is 0, else 32, 48 or 64). Whether the rest
+   fits, the count by itself too, the next call judges. */
 CASTULFRISA_MUST_USE uint64_t castulfrisa_session_id(
     const uint8_t *exchange, uint64_t exchange_len, castulfrisa_session *told, uint8_t id[CASTULFRISA_H_SIZE]);
 

@@ -406,7 +406,7 @@ pub extern "C" fn castulfrisa_reply_signature(
     lent_parts::reply_part(ex, room, payload, 2, place) as u64
 }
 
-// The session of an exchange at any stage. Told: the identifier's length, how many exchanges were completed, and the identifier, zeros after it.
+// The session of an exchange at any stage. Told: the identifier's length, how many exchanges were completed, and the identifier's 64 bytes.
 #[no_mangle]
 pub extern "C" fn castulfrisa_session_id(
     ex: &[u8],

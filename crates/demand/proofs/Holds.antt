@@ -13,6 +13,7 @@ use Rattle.exchange.specs.declared.Step.{Step}
 use Rattle.exchange.specs.declared.SecretStep.{SecretStep}
 use Rattle.exchange.specs.declared.Exchange.{Exchange}
 use Rattle.exchange.proofs.Simulation.{held, start-zero, sign-room}
+use Rattle.exchange.proofs.SessionLaws.{Kept, session-kept}
 use Rattle.demand.specs.History.{History, no-call, own-c, read-init, read-reply, take-secret, give-sign, give-verdict, begin-again}
 use Rattle.demand.specs.Told.{Told, start-then}
 use Rattle.demand.specs.Demand3.{Demand3}
@@ -101,3 +102,8 @@ pub demand3 : Demand3
 demand3 b₀ room₀ calls numbers e room h =
     let k = runs h in
     held-there (k .role) (k .method) (k .vc) (k .vs) (k .ic) (k .is) room₀ b₀ calls numbers e room (k .book) (k .cause) (k .run)
+
+-- once an exchange was completed, no further call changes identifier and length, and the count does not fall; a fault included
+pub session-over : {e : Exchange} {room : List ℕ} {qs : List Turn} {ns : List ℕ} {e′ : Exchange} {room′ : List ℕ} → History e room qs ns e′ room′ → (e .session .count ≡ 0 → ⊥)
+    → Kept (e .session) (e′ .session)
+session-over {e} {room} {qs} h n = rw (as-defined h .exchange) (session-kept e room qs n)

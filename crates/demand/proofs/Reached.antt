@@ -15,7 +15,7 @@ use Rattle.exchange.specs.Steps.{Call, ownC, init, reply, secret, sign, verdict
 use Rattle.exchange.specs.Again.{Turn, step, again, againAfter, againRoom, againAnswered}
 use Rattle.exchange.specs.Book.{opened}
 use Rattle.exchange.specs.Demand.{numbersOf, lastExchange, lastRoom}
-use Rattle.exchange.proofs.Sample.{version, payload, sampleTurns, twiceTurns}
+use Rattle.exchange.proofs.Sample.{version, payload, payload′, sampleTurns, twiceTurns}
 use Rattle.exchange.specs.declared.Exchange.{Exchange}
 use Rattle.exchange.proofs.Simulation.{sign-room}
 use Rattle.exchange.proofs.Completes.{completes, completes-twice}
@@ -132,7 +132,10 @@ module _ (l : Lft) (g : GName) where
         book = opened role m version version payload payload;
         role-is = refl;
         method-is = refl;
+        first = sampleTurns role m;
+        rest = again m′ payload′ payload′ ∷ sampleTurns role m′;
         calls = twiceTurns role m m′;
+        calls-are = refl;
         numbers = numbersOf e o (twiceTurns role m m′);
         exchange = lastExchange e o (twiceTurns role m m′);
         room-left = lastRoom e o (twiceTurns role m m′);
@@ -141,4 +144,5 @@ module _ (l : Lft) (g : GName) where
         method-left = c .2;
         count-is = c .3;
         length-is = c .4;
+        id-is = c .5;
       }

@@ -2,10 +2,12 @@
 use Prim.Native.Nat.{ℕ, _≤_}
 use mathlib.Core.Path.{_≡_, sym, ap, subst, _∙_}
 use mathlib.Core.List.{List, [], _∷_}
+use mathlib.Core.Bool.{Bool, true, cond, _&&_}
 use lib.ListN.{length, getD, take, drop}
 use denote.Ref.{now}
-use Rattle.limits.specs.Limits.{roomLeast}
-use Rattle.buffers.specs.Bytes.{onto}
+use Rattle.limits.specs.Limits.{hSize, roomLeast}
+use Rattle.limits.proofs.BoolLaws.{both}
+use Rattle.buffers.specs.Bytes.{zeros, onto}
 use Rattle.exchange.specs.Causes.{hOf}
 use Rattle.exchange.specs.Steps.{Call, secret, sign, verdict, number, countOf, secondOf, answered, replyOf, outputAfter, started, startedRoom}
 use Rattle.exchange.specs.Again.{Turn}
@@ -14,22 +16,27 @@ use Rattle.exchange.specs.Demand.{lastExchange}
 use Rattle.exchange.specs.declared.Step.{Step}
 use Rattle.exchange.specs.declared.Exchange.{Exchange}
 use Rattle.exchange.proofs.StepLaws.{step-accepted, output-accepted}
-use Rattle.exchange.proofs.Simulation.{Sim}
+use Rattle.exchange.proofs.Simulation.{Sim, id-sim}
+use Rattle.exchange.proofs.SessionLaws.{Kept, session-kept}
+use Rattle.exchange.specs.Record.{idFits}
+use Rattle.exchange.specs.declared.Session.{Session}
 use Rattle.exchange.proofs.TheExchange.{told-exchange}
 use Rattle.exchange.proofs.HandedLaws.{secret-handed, secret-hashed, sign-handed, verdict-handed}
 use Rattle.arguments.specs.Arguments.{isYes, classicalOf, kemOf}
-use Rattle.stored.specs.Stored.{encoded, decoded, byFit}
-use Rattle.lent.specs.Lent.{tells, lentCall}
+use Rattle.stored.specs.Stored.{encoded, fits, decoded, byFit}
+use Rattle.stored.proofs.RoundTrip.{encoded-fits}
+use Rattle.lent.specs.Lent.{tells, lentCall, sessionKnown}
 use Rattle.keys.specs.Derived.{deriveCause, keyIn}
 use Rattle.keys.specs.KeysTold.{keyTold}
 use Rattle.keys.proofs.OutputLaws.{derived-told}
 use Rattle.demand.proofs.HandsOut.{followed-there}
+use Rattle.demand_host.specs.History.{History}
 use Rattle.demand_host.specs.Told.{Told}
-use Rattle.demand_host.specs.HandedOut.{SecretHandsOut, SignHandsOut, VerdictHandsOut, KeyHandsOut, HandedOut}
+use Rattle.demand_host.specs.HandedOut.{SecretHandsOut, SignHandsOut, VerdictHandsOut, KeyHandsOut, SessionHandsOut, HandedOut}
 use Rattle.lent.proofs.Kept.{Storable, lent-is-step}
 use Rattle.lent.proofs.AsStep.{as-step}
 use Rattle.demand_host.proofs.Links.{found, told-method}
-use Rattle.demand_host.proofs.Holds.{runs, as-defined}
+use Rattle.demand_host.proofs.Holds.{host-run, runs, as-defined}
 
 -- the bytes in the host's hands are those of an exchange that, with the room, follows the book
 record Follows (b₀ : Book) (room₀ : List ℕ) (calls : List Turn) (ex room : List ℕ) : Type 0 where
@@ -158,5 +165,27 @@ key-hands-out b₀ room₀ calls numbers room κs a r s d t =
           ∙ ap (λ (m : ℕ). outputAfter m out (keyTold b (a .1 .0) (a .1 .1 .0))) (sym n),
     )
 
+session-hands-out : SessionHandsOut
+unfolding sessionKnown
+session-hands-out b₀ room₀ calls numbers room κs a r s d t =
+    let f = follows d in
+    let ex = now (a .0) in
+    let i = id-sim room₀ (lastBook (length room₀) b₀ calls) (decoded ex) room (f .sim) in
+    let k : (fits ex && idFits (decoded ex .session .len) (decoded ex .session .count)) ≡ true =
+    both (ap fits (f .stored) ∙ encoded-fits (decoded ex) (f .storable .k-size) (f .storable .h-size) (f .storable .id-size)) (i .1) in (
+      t .0 ∙ ap (λ (y : Bool). cond y 0 1) k,
+      t .1 ∙ ap (λ (y : Bool). cond y (decoded ex .session .len ∷ decoded ex .session .count ∷ []) (zeros 2)) k ∙ ap (λ (y : Session). y .len ∷ y .count ∷ []) (i .0),
+      t .2 ∙ ap (λ (y : Bool). cond y (decoded ex .session .id) (zeros hSize)) k ∙ ap (λ (y : Session). y .id) (i .0),
+    )
+
 pub handed-out : HandedOut
-handed-out = record { secret-step = secret-hands-out; signature = sign-hands-out; verdict = verdict-hands-out; key = key-hands-out }
+handed-out = record { secret-step = secret-hands-out; signature = sign-hands-out; verdict = verdict-hands-out; key = key-hands-out; session = session-hands-out }
+
+-- once an exchange was completed, no further call changes identifier and length in the host's bytes, and the count does not fall; a fault included
+pub session-over : {b₀ : Book} {room₀ : List ℕ} {calls : List Turn} {numbers ex room : List ℕ} → Told b₀ room₀ calls numbers ex room
+    → {qs : List Turn} {ns ex′ room′ : List ℕ} → History (lastBook (length room₀) b₀ calls .method) ex room qs ns ex′ room′ → (decoded ex .session .count ≡ 0 → ⊥)
+    → Kept (decoded ex .session) (decoded ex′ .session)
+session-over {ex = ex} {room} d {qs} h n =
+    let f = follows d in
+    let s = host-run h (decoded ex) (f .stored) (f .storable) (f .method-is) in
+    rw (as-defined s .exchange) (session-kept (decoded ex) room qs n)

@@ -21,7 +21,7 @@ use Rattle.exchange.specs.declared.Classical.the-variants.{Failed as NoX, Given
 use Rattle.exchange.specs.declared.Kem.{Kem}
 use Rattle.exchange.specs.declared.Kem.the-variants.{Absent, Failed as NoKem, Done}
 use Rattle.exchange.specs.declared.Exchange.{Exchange}
-use Rattle.exchange.proofs.Sample.{version, payload, sampleTurns, twiceTurns}
+use Rattle.exchange.proofs.Sample.{version, payload, payload′, sampleTurns, twiceTurns}
 use Rattle.exchange.proofs.Simulation.{sign-room}
 use Rattle.exchange.proofs.Completes.{completes, completes-twice}
 use Rattle.arguments.specs.Arguments.{isYes, classicalOf, kemOf}
@@ -232,7 +232,10 @@ module _ (l : Lft) (g : GName) where
         book = opened role m version version payload payload;
         role-is = refl;
         method-is = refl;
+        first = sampleTurns role m;
+        rest = again m′ payload′ payload′ ∷ sampleTurns role m′;
         calls = twiceTurns role m m′;
+        calls-are = refl;
         numbers = numbersOf e o (twiceTurns role m m′);
         exchange = encoded x;
         room-left = lastRoom e o (twiceTurns role m m′);
@@ -241,4 +244,5 @@ module _ (l : Lft) (g : GName) where
         method-left = ap (λ (y : Exchange). y .method) d ∙ c .2;
         count-is = ap (λ (y : Exchange). y .session .count) d ∙ c .3;
         length-is = ap (λ (y : Exchange). y .session .len) d ∙ c .4;
+        id-is = ap (λ (y : Exchange). y .session .id) d ∙ c .5;
       }

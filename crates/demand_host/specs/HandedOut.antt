@@ -1,5 +1,5 @@
 -- What a further call of an export hands out after an accepted start and any history, by the book of the same calls: the hash input, H,
--- REPLY, K, and the keys. The call is told by `Reads.Learnt` of its own export, as those of the history are; deriving is none of these. Assumes nothing.
+-- REPLY, K, the keys, and the session. The call is told by `Reads.Learnt` of its own export, as those of the history are; deriving and telling the session are none of these. Assumes nothing.
 use Prim.Native.Nat.{ℕ}
 use mathlib.Core.Path.{_≡_}
 use mathlib.Core.List.{List, [], _∷_}
@@ -13,7 +13,7 @@ use Rattle.messages.specs.Messages.{replyBytes, fieldOf}
 use Rattle.exchange.specs.Causes.{replyCause, hOf}
 use Rattle.exchange.specs.Steps.{secret, kRecord, outputAfter}
 use Rattle.exchange.specs.Again.{Turn}
-use Rattle.exchange.specs.Book.{Book, noted, lastBook, hashInput}
+use Rattle.exchange.specs.Book.{Book, noted, finished, lastBook, hashInput, sessionOf}
 use Rattle.arguments.specs.Arguments.{classicalOf, kemOf}
 use Rattle.boundary.proofs.castulfrisa_take_secret as take-secret-fn
 use Rattle.boundary.proofs.castulfrisa_take_secret.Reads as take-secret-reads
@@ -22,6 +22,8 @@ use Rattle.boundary.proofs.castulfrisa_sign.Reads as sign-reads
 use Rattle.boundary.proofs.castulfrisa_verdict as verdict-fn
 use Rattle.boundary.proofs.castulfrisa_verdict.Reads as verdict-reads
 use Rattle.keys.specs.KeysTold.{keyTold, causeTold}
+use Rattle.boundary.proofs.castulfrisa_session_id as session-fn
+use Rattle.boundary.proofs.castulfrisa_session_id.Reads as session-reads
 use Rattle.boundary.proofs.castulfrisa_derive as derive-fn
 use Rattle.boundary.proofs.castulfrisa_derive.Reads as derive-reads
 use Rattle.demand_host.specs.Told.{Told}
@@ -75,9 +77,19 @@ KeyHandsOut =
     let out = now (a .1 .1 .1 .0) in
     (r ≡ causeTold b (a .1 .0) (a .1 .1 .0) (length out)) × (now (s .1 .1 .1 .0) ≡ outputAfter r out (keyTold b (a .1 .0) (a .1 .1 .0)))
 
--- all four
+-- the session is told, whatever came, and is the book's over the whole history
+abbrev pub SessionHandsOut : Type 0
+SessionHandsOut =
+    (b₀ : Book) (room₀ : List ℕ) (calls : List Turn) (numbers room : List ℕ)
+    (κs : Lfts 3) (a : ArgsD session-fn.signature κs) (r : ℕ) (s : AtExit session-fn.ended κs)
+    → Told b₀ room₀ calls numbers (now (a .0)) room → session-reads.Learnt κs a r s
+    → let t = sessionOf (finished (lastBook (length room₀) b₀ calls)) in
+    (r ≡ 0) × (now (s .1 .0) ≡ t .len ∷ t .count ∷ []) × (now (s .1 .1 .0) ≡ t .id)
+
+-- all five
 pub record HandedOut : Type 0 where
   pub secret-step : SecretHandsOut
   pub signature : SignHandsOut
   pub verdict : VerdictHandsOut
   pub key : KeyHandsOut
+  pub session : SessionHandsOut

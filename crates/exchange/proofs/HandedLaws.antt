@@ -48,7 +48,7 @@ live-of room b e room′ q h (live s x y) z = record {
   room-is = y;
   cause = sym (number-live room b q h s) ∙ (λ i. number (sym x i) (sym y i) q) ∙ z;
 }
-live-of room b e room′ q h (dead n x f y w v u t r) z = let d = dead-number e room′ n q y in let g : ⊥ = omega arith in absurd g
+live-of room b e room′ q h (dead n x f y w v u t j r) z = let d = dead-number e room′ n q y in let g : ⊥ = omega arith in absurd g
 
 noted-moved : (l : ℕ) (b : Book) (q : Call) → firstCause l b q ≡ 0 → noted l b q ≡ moved b q
 unfolding noted
@@ -161,7 +161,7 @@ ready-of {b} s z =
 
 pub complete-ready : (room : List ℕ) (b : Book) (e : Exchange) (room′ : List ℕ) → Sim room b e room′ → isComplete (e .stage) ≡ true → Ready b e
 complete-ready room b e room′ (live s x y) z = subst (Ready b) (sym x) (ready-of s (ap (λ (v : Exchange). isComplete (v .stage)) (sym x) ∙ z))
-complete-ready room b e room′ (dead n x f y w v u t r) z = absurd (false≢true (ap isComplete (sym y) ∙ z))
+complete-ready room b e room′ (dead n x f y w v u t j r) z = absurd (false≢true (ap isComplete (sym y) ∙ z))
 
 -- ---- signature and verdict: the book has every field, K too
 

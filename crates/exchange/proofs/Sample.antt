@@ -1,6 +1,6 @@
--- Sample calls: for each role and method a list that completes an exchange, and one that completes two, so that demand 3 is not about nothing.
--- Assumes nothing.
-use Prim.Native.Nat.{ℕ, _-_}
+-- Sample calls: for each role and method a list that completes an exchange, one that completes two, and for any number one that completes so many, so
+-- that demand 3 is not about nothing. Assumes nothing.
+use Prim.Native.Nat.{ℕ, zero, suc, _-_}
 use mathlib.Core.List.{List, [], _∷_, _++_}
 use mathlib.Core.Bool.{true, cond}
 use lib.ListN.{replicate}
@@ -19,12 +19,15 @@ use Rattle.exchange.specs.declared.Classical.the-variants.{Given}
 use Rattle.exchange.specs.declared.Kem.{Kem}
 use Rattle.exchange.specs.declared.Kem.the-variants.{Absent, Done}
 
--- a version, a KEXINIT payload, and a host key or signature
+-- a version, a KEXINIT payload, another for the exchanges after the first, and a host key or signature
 abbrev pub version : List ℕ
 version = 83 ∷ []
 
 abbrev pub payload : List ℕ
 payload = 20 ∷ []
+
+abbrev pub payload′ : List ℕ
+payload′ = 20 ∷ 1 ∷ []
 
 abbrev pub blob : List ℕ
 blob = 1 ∷ []
@@ -72,6 +75,11 @@ turns (q ∷ qs) = step q ∷ turns qs
 abbrev pub sampleTurns : ℕ → ℕ → List Turn
 sampleTurns role m = turns (sampleCalls role m)
 
--- one exchange, and then another by a second method
+-- one exchange, and then another by a second method and with another payload
 abbrev pub twiceTurns : ℕ → ℕ → ℕ → List Turn
-twiceTurns role m m′ = sampleTurns role m ++ again m′ payload payload ∷ sampleTurns role m′
+twiceTurns role m m′ = sampleTurns role m ++ again m′ payload′ payload′ ∷ sampleTurns role m′
+
+-- one exchange, and then so many more by the same method
+abbrev pub nights : ℕ → ℕ → ℕ → List Turn
+nights role m zero = sampleTurns role m
+nights role m (suc n) = nights role m n ++ again m payload′ payload′ ∷ sampleTurns role m

@@ -1,26 +1,30 @@
--- What outlasts an exchange: a session over any list of calls, the room that a beginning finds, and lists that never begin again. Assumes nothing.
+-- What outlasts an exchange: a session over any list of calls, the room that a beginning finds, and lists that never begin again; and a beginning's causes
+-- beside a start's. Assumes nothing.
 use Prim.Native.Nat.{ℕ, _+_, _-_, _≤_}
 use mathlib.Core.Path.{_≡_, refl, sym, ap, _∙_}
+use mathlib.Core.Logic.{_⊎_, inl, inr, ⊎-elim}
 use mathlib.Core.List.{List, [], _∷_, _++_}
-use mathlib.Core.Bool.{Bool, true, false, cond}
+use mathlib.Core.Bool.{Bool, true, false, cond, _&&_, false≢true}
 use native.Mathlib.Omega.{arith}
 use lib.ListN.{length, getD, drop, List·getD-append}
 use lib.Seq.{getD-append-add, getD-drop}
 use lib.Dec.{eqb, ltb}
 use borrow.Author.Tests.{ne-eqb, ltb-true, ltb-false}
-use Rattle.limits.specs.Limits.{kSize, hSize}
+use Rattle.limits.specs.Limits.{kSize, hSize, countMost, roomLeast}
 use Rattle.buffers.specs.Bytes.{zeros, onto}
+use Rattle.wire.specs.Causes.{causeIf, causeUnless, orElse}
 use Rattle.exchange.specs.Numbers.{Kind, accepted, refused, fault, kind, byKind}
-use Rattle.exchange.specs.Causes.{startCause}
-use Rattle.exchange.specs.Record.{noSession, ended}
-use Rattle.exchange.specs.Steps.{Call, ownC, init, reply, secret, sign, verdict, number, oneMore, taken, exchangeAfter, lengthsOf, started}
-use Rattle.exchange.specs.Again.{againNumber, begunAgain, againAfter, againRoom, Turn, step, again, turnAfter, turnRoom}
+use Rattle.exchange.specs.Causes.{methodOk, roleOk, versionOk, kexinitOk, startCause, againCause}
+use Rattle.exchange.specs.Record.{noSession, ended, isComplete}
+use Rattle.exchange.specs.Steps.{Call, ownC, init, reply, secret, sign, verdict, number, oneMore, withLast, taken, exchangeAfter, lengthsOf, started}
+use Rattle.exchange.specs.Again.{againNumber, begunAgain, againAfter, againRoom, Turn, step, again, turnNumber, turnAfter, turnRoom}
 use Rattle.exchange.specs.Book.{Past, Book, opened, firstCause, moved, dropped, noted, hashInput, leftBy, roomTold, lastBook}
 use Rattle.exchange.specs.Demand.{lastExchange}
 use Rattle.exchange.specs.declared.Stage.the-variants.{Started}
 use Rattle.exchange.specs.declared.Session.{Session}
 use Rattle.exchange.specs.declared.Exchange.{Exchange}
 use Rattle.exchange.specs.declared.Step.{Step}
+use Rattle.exchange.proofs.KindLaws.{kind-accepted, kind-is-accepted}
 
 -- ---- the start, and to begin again
 
@@ -36,11 +40,90 @@ start-fresh role m vc vs ic is room = by-test (eqb (startCause role m vc vs ic i
     by-test true = refl
     by-test false = refl
 
+-- 2, 3 and 4 of a beginning are those of a start whose role and both V are in order; then it looks at the count
+pub again-as-start : (role m : ℕ) (vc vs ic is : List ℕ) (room count : ℕ) → roleOk role ≡ true → versionOk vc ≡ true → versionOk vs ≡ true
+    → againCause m ic is room count ≡ orElse (startCause role m vc vs ic is room) (causeIf (eqb count countMost) 23 0)
+unfolding startCause againCause causeIf causeUnless orElse
+again-as-start role m vc vs ic is room count r c s =
+    rw (r, c, s) (by-test (methodOk m) (ltb room roomLeast) (kexinitOk ic) (kexinitOk is) (causeIf (eqb count countMost) 23 0))
+  where
+    by-test : (t u v w : Bool) (n : ℕ)
+        → causeUnless t 2 (causeIf u 3 (causeUnless (v && w) 4 n)) ≡ orElse (causeUnless (t && true) 2 (causeIf u 3 (causeUnless (true && true && v && w) 4 0))) n
+    by-test true true v w n = refl
+    by-test true false true true n = refl
+    by-test true false true false n = refl
+    by-test true false false w n = refl
+    by-test false u v w n = refl
+
 -- a refused beginning changes nothing
 pub again-refused-keeps : (e : Exchange) (room : List ℕ) (m : ℕ) (ic is : List ℕ) → (againNumber e (length room) m ic is ≡ 0 → ⊥)
     → (againAfter e (length room) m ic is ≡ e) × (againRoom e room m ic is ≡ room)
 unfolding againAfter againRoom
 again-refused-keeps e room m ic is n = let z = ne-eqb (againNumber e (length room) m ic is) 0 n in (rw z, rw z)
+
+-- ---- a session moves at a last step that is accepted, and at no other call: of any record at all
+
+-- a role's last step: a server's signature, a client's verdict
+abbrev pub isLast : Turn → Bool
+isLast (step (ownC c out)) = false
+isLast (step (init p)) = false
+isLast (step (reply p)) = false
+isLast (step (secret cl x kem kPq ks s)) = false
+isLast (step (sign g out kOut)) = true
+isLast (step (verdict u v kOut)) = true
+isLast (again m ic is) = false
+
+taken-moves : (e : Exchange) (room : List ℕ) (q : Call) → (taken e room q .session ≡ e .session) ⊎ ((isLast (step q) ≡ true) × (taken e room q ≡ withLast e))
+unfolding taken
+taken-moves e room (ownC c out) = inl refl
+taken-moves e room (init p) = inl refl
+taken-moves e room (reply p) = inl refl
+taken-moves e room (secret cl x kem kPq ks s) = inl refl
+taken-moves e room (sign g out kOut) = inr (refl, refl)
+taken-moves e room (verdict u v kOut) = inr (refl, refl)
+
+step-moves : (e : Exchange) (room : List ℕ) (q : Call)
+    → (exchangeAfter e room q .session ≡ e .session) ⊎ ((isLast (step q) ≡ true) × (number e room q ≡ 0) × (exchangeAfter e room q ≡ withLast e))
+unfolding exchangeAfter ended
+step-moves e room q = by-kind (number e room q) (kind (number e room q)) refl
+  where
+    by-kind : (n : ℕ) (k : Kind) → kind n ≡ k
+        → (byKind k (taken e room q) e (ended n (e .role) (e .method) (e .session)) .session ≡ e .session)
+        ⊎ ((isLast (step q) ≡ true) × (n ≡ 0) × (byKind k (taken e room q) e (ended n (e .role) (e .method) (e .session)) ≡ withLast e))
+    by-kind n accepted c =
+        ⊎-elim (λ (a : taken e room q .session ≡ e .session). inl a) (λ (a : (isLast (step q) ≡ true) × (taken e room q ≡ withLast e)). inr (a .0, kind-is-accepted n c, a .1)) (taken-moves e room q)
+    by-kind n refused c = inl refl
+    by-kind n fault c = inl refl
+
+-- it stays, or the exchange's last step was accepted, which completes and counts it
+pub session-moves : (e : Exchange) (room : List ℕ) (q : Turn)
+    → (turnAfter e room q .session ≡ e .session) ⊎ ((isLast q ≡ true) × (turnNumber e room q ≡ 0) × (turnAfter e room q ≡ withLast e))
+unfolding againAfter
+session-moves e room (step q) = step-moves e room q
+session-moves e room (again m ic is) = inl (by-test (eqb (againNumber e (length room) m ic is) 0))
+  where
+    by-test : (t : Bool) → cond t (begunAgain e m (length ic) (length is)) e .session ≡ e .session
+    by-test true = refl
+    by-test false = refl
+
+-- an accepted last step always does
+pub last-counts : (e : Exchange) (room : List ℕ) (q : Turn) → isLast q ≡ true → turnNumber e room q ≡ 0 → turnAfter e room q ≡ withLast e
+unfolding exchangeAfter taken
+last-counts e room (step (ownC c out)) l z = absurd (false≢true l)
+last-counts e room (step (init p)) l z = absurd (false≢true l)
+last-counts e room (step (reply p)) l z = absurd (false≢true l)
+last-counts e room (step (secret cl x kem kPq ks s)) l z = absurd (false≢true l)
+last-counts e room (step (sign g out kOut)) l z = rw (kind-accepted (number e room (sign g out kOut)) z)
+last-counts e room (step (verdict u v kOut)) l z = rw (kind-accepted (number e room (verdict u v kOut)) z)
+last-counts e room (again m ic is) l z = absurd (false≢true l)
+
+-- a call that leaves no complete exchange leaves the session
+pub last-alone : (e : Exchange) (room : List ℕ) (q : Turn) → isComplete (turnAfter e room q .stage) ≡ false → turnAfter e room q .session ≡ e .session
+last-alone e room q c =
+    ⊎-elim
+    (λ (a : turnAfter e room q .session ≡ e .session). a)
+    (λ (a : (isLast q ≡ true) × (turnNumber e room q ≡ 0) × (turnAfter e room q ≡ withLast e)). absurd (false≢true (sym c ∙ ap (λ (x : Exchange). isComplete (x .stage)) (a .2))))
+    (session-moves e room q)
 
 -- ---- once an exchange was completed, the identifier and its length never change, faults included, and the count never falls: of any record at all
 

@@ -38,7 +38,7 @@ use Rattle.exchange.specs.declared.Session.{Session}
 use Rattle.exchange.specs.declared.Exchange.{Exchange}
 use Rattle.exchange.specs.declared.Step.{Step}
 use Rattle.exchange.proofs.CauseFacts.{Base, FormedC, FormedS, Blob, Key, method-row, start-known, again-known, own-c-formed, init-formed, reply-formed, secret-known, own-formed, key-sized}
-use Rattle.exchange.proofs.DueLaws.{lengths-fit, record-fits, due-fits, next-failed}
+use Rattle.exchange.proofs.DueLaws.{lengths-fit, record-fits, recorded, due-fits, next-failed, session-known}
 use Rattle.exchange.proofs.HashLaws.{fieldsOf, hash-length, room-c, room-k, room-reply, room-secret, hash-start, room-again}
 
 abbrev pub book : ℕ → ℕ → ℕ → Fields → List Past → Book
@@ -370,7 +370,8 @@ dropped-past b = refl
 pub data Sim (room : List ℕ) (b : Book) (e : Exchange) (room′ : List ℕ) : Type 0 where
   live : Reachable b → e ≡ exchangeOf b → room′ ≡ onto (leftBy (b .past) room) (hashInput (b .fields)) → Sim room b e room′
   dead : (n : ℕ) → b .faulted ≡ true → b .fields ≡ noFields → e .stage ≡ Failed n → e .k ≡ kRecord [] → e .h ≡ zeros hSize
-      → e .session ≡ sessionOf (finished b) → length (finished b) ≤ countMost → room′ ≡ zeros (length room) → Sim room b e room′
+      → e .session ≡ sessionOf (finished b) → length (finished b) ≤ countMost → idFits (sessionOf (finished b) .len) (length (finished b)) ≡ true
+      → room′ ≡ zeros (length room) → Sim room b e room′
 
 pub number-live : (room : List ℕ) (b : Book) (q : Call) → roomLeast ≤ length room → Reachable b →
     number (exchangeOf b) (onto (leftBy (b .past) room) (hashInput (b .fields))) q ≡ firstCause (length room) b q
@@ -418,8 +419,9 @@ settle room b q n fault h s e k =
     let p = sessionOf (finished b) in
     let o = ap sessionOf (fault-open (length room) s q (ap isFault (sym e) ∙ kind-is-fault n k)) in
     let d = ap length (dropped-past b) in
+    let j = ap (λ (past : List Past). idFits (sessionOf past .len) (length past)) (dropped-past b) ∙ gone s .named in
     dead n refl refl (ended-stage n (b .role) (b .method) p) (ended-k n (b .role) (b .method) p) (ended-h n (b .role) (b .method) p)
-    (ended-session n (b .role) (b .method) p ∙ o) (omega (arith, gone s .few)) (ap zeros (long-enough s room h))
+    (ended-session n (b .role) (b .method) p ∙ o) (omega (arith, gone s .few)) j (ap zeros (long-enough s room h))
 
 -- no step is due on an exchange that failed
 dead-due : (e : Exchange) (n : ℕ) (q : Call) → e .stage ≡ Failed n → due (stepNo q) e ≡ false
@@ -442,8 +444,8 @@ pub step : (room : List ℕ) (b : Book) (e : Exchange) (room′ : List ℕ) (q :
     (number e room′ q ≡ firstCause (length room) b q) × Sim room (noted (length room) b q) (exchangeAfter e room′ q) (roomAfter e room′ q)
 unfolding exchangeAfter roomAfter noted
 step room b e room′ q h (live s x y) = rw (x, y) (number-live room b q h s, rw (number-live room b q h s) (settle room b q _ _ h s refl refl))
-step room b e room′ q h (dead n x f y w v u t z) =
-    (dead-number e room′ n q y ∙ sym (dead-cause (length room) b q x), rw (dead-number e room′ n q y, dead-cause (length room) b q x, kind-refused 1 (λ u. omega arith) refl) (dead n x f y w v u t z))
+step room b e room′ q h (dead n x f y w v u t j z) =
+    (dead-number e room′ n q y ∙ sym (dead-cause (length room) b q x), rw (dead-number e room′ n q y, dead-cause (length room) b q x, kind-refused 1 (λ u. omega arith) refl) (dead n x f y w v u t j z))
 
 -- ---- to begin again
 
@@ -527,10 +529,10 @@ unfolding againNoted againAfter againRoom
 begins room b e room′ m ic is h (live s x y) =
     let n = again-live room b m ic is h s in
     rw (x, y) (n, rw n (again-settle room b m ic is _ s refl))
-begins room b e room′ m ic is h (dead n x f y w v u t z) =
+begins room b e room′ m ic is h (dead n x f y w v u t j z) =
     let d = dead-again e (length room′) n m ic is y in
     let c = dead-first (length room) b m ic is x in
-    (d ∙ sym c, rw (d, c) (dead n x f y w v u t z))
+    (d ∙ sym c, rw (d, c) (dead n x f y w v u t j z))
 
 -- ---- a list of calls
 
@@ -613,34 +615,44 @@ silent l b (q ∷ qs) = (λ h. ones l (turnNoted l b q) qs (faulted l b q h), si
 pub complete-sim : (room : List ℕ) (b : Book) (e : Exchange) (room′ : List ℕ) → Sim room b e room′ → isComplete (e .stage) ≡ hasAll b
 unfolding hasAll
 complete-sim room b e room′ (live s x y) = rw x (complete-of-book s)
-complete-sim room b e room′ (dead n x f y w v u t z) = rw (x, y)
+complete-sim room b e room′ (dead n x f y w v u t j z) = rw (x, y)
 
 room-sim : (room : List ℕ) (b : Book) (e : Exchange) (room′ : List ℕ) → Sim room b e room′ → room′ ≡ roomTold b room
 unfolding roomTold
 room-sim room b e room′ (live s x y) = rw (sound-live s) y
-room-sim room b e room′ (dead n x f y w v u t z) = rw x z
+room-sim room b e room′ (dead n x f y w v u t j z) = rw x z
 
 most-sim : (room : List ℕ) (b : Book) (e : Exchange) (room′ : List ℕ) → Sim room b e room′ → length (hashInput (b .fields)) ≤ roomLeast
 unfolding hashInput field
 most-sim room b e room′ (live s x y) = total s
-most-sim room b e room′ (dead n x f y w v u t z) = rw f zero-le
+most-sim room b e room′ (dead n x f y w v u t j z) = rw f zero-le
 
 k-sim : (room : List ℕ) (b : Book) (e : Exchange) (room′ : List ℕ) → Sim room b e room′ → e .k ≡ kRecord (b .fields .k)
 k-sim room b e room′ (live s x y) = ap (λ (z : Exchange). z .k) x
-k-sim room b e room′ (dead n x f y w v u t z) = rw f w
+k-sim room b e room′ (dead n x f y w v u t j z) = rw f w
 
 h-sim : (room : List ℕ) (b : Book) (e : Exchange) (room′ : List ℕ) → Sim room b e room′ → e .h ≡ hTold b
 unfolding hTold
 h-sim room b e room′ (live s x y) = ap (λ (z : Exchange). z .h) x
-h-sim room b e room′ (dead n x f y w v u t z) = rw f v
+h-sim room b e room′ (dead n x f y w v u t j z) = rw f v
 
 session-sim : (room : List ℕ) (b : Book) (e : Exchange) (room′ : List ℕ) → Sim room b e room′ → e .session ≡ sessionOf (finished b)
 session-sim room b e room′ (live s x y) = ap (λ (z : Exchange). z .session) x
-session-sim room b e room′ (dead n x f y w v u t z) = u
+session-sim room b e room′ (dead n x f y w v u t j z) = u
 
 count-sim : (room : List ℕ) (b : Book) (e : Exchange) (room′ : List ℕ) → Sim room b e room′ → e .session .count ≤ countMost
 count-sim room b e room′ (live s x y) = rw x (count-of-book s)
-count-sim room b e room′ (dead n x f y w v u t z) = rw u t
+count-sim room b e room′ (dead n x f y w v u t j z) = rw u t
+
+-- the session is the book's, and its identifier's length goes with the count
+pub id-sim : (room : List ℕ) (b : Book) (e : Exchange) (room′ : List ℕ) → Sim room b e room′ → (e .session ≡ sessionOf (finished b)) × (idFits (e .session .len) (e .session .count) ≡ true)
+id-sim room b e room′ s =
+    let o = session-sim room b e room′ s in
+    (o, ap (λ (z : Session). idFits (z .len) (z .count)) o ∙ fits s)
+  where
+    fits : Sim room b e room′ → idFits (sessionOf (finished b) .len) (length (finished b)) ≡ true
+    fits (live r x y) = session-known (exchangeOf b .stage) (sessionOf (finished b)) (recorded (exchangeOf b) (fits-of-book r) .session) .1
+    fits (dead n x f y w v u t j z) = j
 
 h-complete : {b : Book} → Reachable b → isComplete (exchangeOf b .stage) ≡ true → hTold b ≡ hOf (b .method) (hashInput (b .fields))
 unfolding hTold
@@ -656,7 +668,7 @@ h-complete (server3 o a c k s y) z = h-some _ _ _ (y .len)
 
 pub h-whole-sim : (room : List ℕ) (b : Book) (e : Exchange) (room′ : List ℕ) → Sim room b e room′ → isComplete (e .stage) ≡ true → e .h ≡ hOf (b .method) (hashInput (b .fields))
 h-whole-sim room b e room′ (live s x y) z = ap (λ (v : Exchange). v .h) x ∙ h-complete s (ap (λ (v : Exchange). isComplete (v .stage)) (sym x) ∙ z)
-h-whole-sim room b e room′ (dead n x f y w v u t r) z = absurd (false≢true (ap isComplete (sym y) ∙ z))
+h-whole-sim room b e room′ (dead n x f y w v u t j r) z = absurd (false≢true (ap isComplete (sym y) ∙ z))
 
 -- ---- the start
 

@@ -137,8 +137,8 @@ one-turn room h b e room′ (again m′ ic is) qs s x m rest =
 told-run : (room : List ℕ) → roomLeast ≤ length room → (b : Book) (e : Exchange) (room′ : List ℕ) (qs : List Turn) → Sim room b e room′ → b .faulted ≡ false
     → lastExchange e room′ qs ≡ exchangeTold (lastBook (length room) b qs) (numbersOf e room′ qs)
 told-run room h b e room′ [] (live s x y) f = x ∙ told-live b [] f
-told-run room h b e room′ [] (dead n x g y w v u t z) f = absurd (false≢true (sym f ∙ x))
-told-run room h b e room′ (q ∷ qs) (dead n x g y w v u t z) f = absurd (false≢true (sym f ∙ x))
+told-run room h b e room′ [] (dead n x g y w v u t j z) f = absurd (false≢true (sym f ∙ x))
+told-run room h b e room′ (q ∷ qs) (dead n x g y w v u t j z) f = absurd (false≢true (sym f ∙ x))
 told-run room h b e room′ (q ∷ qs) (live s x y) f =
     one-turn room h b e room′ q qs s x (live s x y) (told-run room h (turnNoted (length room) b q) (turnAfter e room′ q) (turnRoom e room′ q) qs)
 

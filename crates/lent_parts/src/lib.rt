@@ -75,7 +75,7 @@ fn id_of(ex: &[u8]) -> [u8; limits::H_SIZE]
     id
 }
 
-// The session of an exchange at any stage: the identifier's length, how many exchanges were completed, and the identifier, zeros after it. 1, and zeros,
+// The session of an exchange at any stage: the identifier's length, how many exchanges were completed, and the identifier's 64 bytes. 1, and zeros,
 // where the length does not go with the count, so that what is told can be taken by it.
 pub fn session(ex: &[u8], told: &mut [u64; 2], id: &mut [u8; limits::H_SIZE]) -> u8
     ensures { λ n.

@@ -232,7 +232,7 @@ pub fn count_in(b: &[u8]) -> u64
     u64_at(b, COUNT_AT)
 }
 
-// The session identifier among the bytes, zeros after it; empty in bytes of another size.
+// The session identifier among the bytes, all 64 of them; empty in bytes of another size.
 pub fn id_in(b: &[u8]) -> &[u8]
     ensures { λ r. ⌜ now r ≡ idKept (now (b .entry)) ⌝ }
 {
