@@ -1,5 +1,5 @@
 -- What stands behind both V of a complete exchange's room matters to nothing that comes after, so that a host may wipe it. Assumes nothing.
-use Prim.Native.Nat.{ℕ, zero, suc, _+_, _-_, _≤_, _<_}
+use Prim.Native.Nat.{ℕ, zero, suc, _+_, _-_, _≤_}
 use mathlib.Core.Path.{_≡_, refl, sym, ap, ap₂, subst, _∙_}
 use mathlib.Core.List.{List, [], _∷_, _++_, append-assoc, append-nil}
 use mathlib.Core.Bool.{Bool, true, false, cond, false≢true}
@@ -12,10 +12,13 @@ use Rattle.limits.specs.Limits.{client, server}
 use Rattle.buffers.specs.Bytes.{zeros, onto, over}
 use Rattle.methods.specs.Rows.{rowOf}
 use Rattle.messages.specs.Messages.{replyBytes, fieldOf}
+use Rattle.transcript.specs.Fields.{field, fieldLength}
+use Rattle.transcript.proofs.RoomLaws.{length-field}
+use Rattle.transcript.proofs.FieldLaws.{fieldLength-none, fieldLength-some}
 use Rattle.exchange.specs.Numbers.{Kind, accepted, refused, fault, kind, byKind}
 use Rattle.exchange.specs.Causes.{kOf, hOf}
-use Rattle.exchange.specs.Record.{noLengths, noSession, ended, clientNext, serverNext, nextStep, isComplete}
-use Rattle.exchange.specs.Steps.{Call, ownC, init, reply, secret, sign, verdict, stepNo, fedCause, stepNumber, number, headEnd, fieldsEnd, standingC, secretRoom, filled, withC, withS, withOwn, withSecret, kRecord, taken, exchangeAfter, roomAfter, replyOf, outputAfter, lengthsOf}
+use Rattle.exchange.specs.Record.{ended, clientNext, serverNext, nextStep, isComplete}
+use Rattle.exchange.specs.Steps.{Call, ownC, init, reply, secret, sign, verdict, stepNo, fedCause, stepNumber, number, headEnd, fieldsEnd, standingC, secretRoom, filled, withC, withS, withOwn, withSecret, kRecord, taken, exchangeAfter, roomAfter, replyOf, outputAfter}
 use Rattle.exchange.specs.Again.{againNumber, versionsEnd, againLengths, begunAgain, againAfter, againRoom, Turn, step, again, turnNumber, turnAfter, turnRoom}
 use Rattle.exchange.specs.Demand.{numbersOf, lastExchange, lastRoom}
 use Rattle.exchange.specs.declared.Stage.{Stage}
@@ -25,7 +28,6 @@ use Rattle.exchange.specs.declared.Exchange.{Exchange}
 use Rattle.exchange.proofs.KindLaws.{kind-is-accepted}
 use Rattle.exchange.proofs.CauseFacts.{method-row}
 use Rattle.exchange.proofs.DueLaws.{next-failed}
-use Rattle.exchange.proofs.HashLaws.{headIn, head-length, hash-length, hash-start, ks-stands}
 use Rattle.exchange.proofs.StepLaws.{step-known, bounded, all-most}
 use Rattle.exchange.proofs.Simulation.{dead-again}
 
@@ -95,66 +97,17 @@ over-alike : (r r′ : List ℕ) (at n : ℕ) (b : List ℕ) → n ≤ at + leng
 over-alike r r′ at n b k t =
     fewer (over r at b) (over r′ at b) n (at + length b) k (over-front r at b ∙ ap (λ (x : List ℕ). x ++ b) t ∙ sym (over-front r′ at b))
 
--- ---- how long fields are
+-- ---- C as it stands in both
 
--- four fields take as many bytes as their lengths say
-four : (a b c d : List ℕ) → headEnd (lengthsOf a b c d) ≡ length (headIn a b c d)
-four a b c d = head-length a b c d (lengthsOf a b c d) refl refl refl refl
-
--- missing ones none
-none : fieldsEnd noLengths ≡ 0
-none =
-    let a = four [] [] [] [] in
-    let b = ap length (hash-start [] [] [] []) ∙ hash-length [] [] [] [] [] [] [] [] in
-    omega arith
-
--- a field's bytes, as own C is laid into a room: this crate does not use the library that names them
-record Laid (room : List ℕ) : Type 0 where
-  at : ℕ
-  bytes : List ℕ
-  is : room ≡ over [] at bytes
-
-fieldBytes : List ℕ → List ℕ
-unfolding filled
-fieldBytes c = laid .bytes
-  where
-    laid : Laid (filled (ended 0 0 0 noSession) [] (ownC c 0))
-    laid = record { at = _; bytes = _; is = refl }
-
-bytes-length : (c : List ℕ) → length (fieldBytes c) ≡ fieldsEnd (withC noLengths (length c))
-unfolding fieldBytes
-bytes-length c =
-    let a : headEnd (lengthsOf c [] [] []) ≡ length (fieldBytes c ++ fieldBytes [] ++ fieldBytes [] ++ fieldBytes []) = four c [] [] [] in
-    let b : headEnd (lengthsOf [] [] [] []) ≡ length (fieldBytes [] ++ fieldBytes [] ++ fieldBytes [] ++ fieldBytes []) = four [] [] [] [] in
-    let f = simp length-append at a in
-    let g = simp length-append at b in
-    omega (arith, none)
-
--- one that is there four more than it has
-some : (n : ℕ) → 0 < n → 4 + n ≤ fieldsEnd (withS noLengths n 0)
-unfolding onto
-some n h =
-    let z = length-replicate {A = ℕ} n 0 in
-    let a = ap length (ks-stands [] [] [] [] [] (zeros n) [] [] [] (omega arith)) in
-    let b = hash-length [] [] [] [] (zeros n) [] [] [] in
-    let c = simp (length-take, length-drop, length-append, z) at a in
-    let d = simp z at b in
-    omega (arith, none)
-
--- C as it stands
-standing-length : (l : Lengths) (r : List ℕ) → fieldsEnd l ≤ length r → headEnd l + length (standingC l r) ≡ fieldsEnd (withS l 0 0)
-standing-length l r h = simp (length-take, length-drop) (omega (arith, none))
-
--- and where it stands, among the fields
-between : (a b c d : ℕ) → a + c ≤ a + b + c + d
-between a b c d = omega arith
+standing-length : (l : Lengths) (r : List ℕ) → fieldsEnd l ≤ length r → length (standingC l r) ≡ fieldLength (l .c)
+standing-length l r h = simp (length-take, length-drop) (omega arith)
 
 standing-alike : (l : Lengths) (r r′ : List ℕ) → length r ≡ length r′ → fieldsEnd l ≤ length r → take (fieldsEnd l) r ≡ take (fieldsEnd l) r′ → standingC l r ≡ standingC l r′
-standing-alike l r r′ a h t = part r r′ (fieldsEnd l) (headEnd l) _ a h (between _ _ _ _) t
+standing-alike l r r′ a h t = part r r′ (fieldsEnd l) (headEnd l) (fieldLength (l .c)) a h (omega arith) t
 
 -- the same bytes laid ahead of C and behind it, with K and without
 module _ (l : Lengths) (r r′ : List ℕ) (a : length r ≡ length r′) (h : fieldsEnd l ≤ length r) (t : take (fieldsEnd l) r ≡ take (fieldsEnd l) r′) (n : ℕ) where
-  around-alike : (x y : List ℕ) → n ≤ fieldsEnd (withS l 0 0) + length x + length y
+  around-alike : (x y : List ℕ) → n ≤ headEnd l + fieldLength (l .c) + length x + length y
       → (length (over r (headEnd l) (x ++ standingC l r ++ y)) ≡ length (over r′ (headEnd l) (x ++ standingC l r′ ++ y)))
       × (take n (over r (headEnd l) (x ++ standingC l r ++ y)) ≡ take n (over r′ (headEnd l) (x ++ standingC l r′ ++ y)))
   around-alike x y k =
@@ -165,7 +118,7 @@ module _ (l : Lengths) (r r′ : List ℕ) (a : length r ≡ length r′) (h : f
         over-alike r r′ (headEnd l) n (x ++ standingC l r ++ y) (omega arith) (fewer r r′ (headEnd l) (fieldsEnd l) (omega arith) t) ∙ ap (λ (z : List ℕ). take n (over r′ (headEnd l) (x ++ z ++ y))) c,
       )
 
-  around-k-alike : (x y z : List ℕ) → n ≤ fieldsEnd (withS l 0 0) + length x + length y + length z
+  around-k-alike : (x y z : List ℕ) → n ≤ headEnd l + fieldLength (l .c) + length x + length y + length z
       → (length (over r (headEnd l) (x ++ standingC l r ++ y ++ z)) ≡ length (over r′ (headEnd l) (x ++ standingC l r′ ++ y ++ z)))
       × (take n (over r (headEnd l) (x ++ standingC l r ++ y ++ z)) ≡ take n (over r′ (headEnd l) (x ++ standingC l r′ ++ y ++ z)))
   around-k-alike x y z k =
@@ -178,7 +131,7 @@ module _ (l : Lengths) (r r′ : List ℕ) (a : length r ≡ length r′) (h : f
 
 -- a server's own and K, or K alone
 own-alike : (u : Bool) (l : Lengths) (r r′ : List ℕ) → length r ≡ length r′ → fieldsEnd l ≤ length r → take (fieldsEnd l) r ≡ take (fieldsEnd l) r′
-    → (p q : ℕ) (x y z : List ℕ) → fieldsEnd (withS l p q) ≤ fieldsEnd (withS l 0 0) + length x + length y
+    → (p q : ℕ) (x y z : List ℕ) → fieldsEnd (withS l p q) ≤ headEnd l + fieldLength (l .c) + length x + length y
     → (length (cond u (over r (headEnd l) (x ++ standingC l r ++ y ++ z)) (over r (fieldsEnd l) z))
     ≡ length (cond u (over r′ (headEnd l) (x ++ standingC l r′ ++ y ++ z)) (over r′ (fieldsEnd l) z)))
     × (take (fieldsEnd (cond u (withS l p q) l) + length z) (cond u (over r (headEnd l) (x ++ standingC l r ++ y ++ z)) (over r (fieldsEnd l) z))
@@ -192,9 +145,8 @@ secret-alike : (role : ℕ) (l : Lengths) (r r′ ks s k : List ℕ) → length 
     → (length (secretRoom role l r ks s k) ≡ length (secretRoom role l r′ ks s k))
     × (take (fieldsEnd (withOwn role l (length ks) (length s)) + length k) (secretRoom role l r ks s k)
     ≡ take (fieldsEnd (withOwn role l (length ks) (length s)) + length k) (secretRoom role l r′ ks s k))
-unfolding fieldBytes
 secret-alike role l r r′ ks s k a h t =
-    own-alike (eqb role server) l r r′ a h t (length ks) (length s) (fieldBytes ks) (fieldBytes s) k (omega (arith, none, bytes-length ks, bytes-length s))
+    own-alike (eqb role server) l r r′ a h t (length ks) (length s) (field ks) (field s) k (omega (arith, length-field ks, length-field s))
 
 -- ---- where a call is accepted, the room has all fields, and they matter
 
@@ -235,26 +187,26 @@ module _ (e : Exchange) (r r′ : List ℕ) (a : Alike e r r′) where
 
   -- the exchange and both rooms after an accepted call
   taken-alike : (q : Call) → number e r q ≡ 0 → (taken e r q ≡ taken e r′ q) × Alike (taken e r q) (filled e r q) (filled e r′ q)
-  unfolding taken filled fieldBytes
+  unfolding taken filled
   taken-alike (ownC c out) z =
       let f = fields-there (ownC c out) z in (
         refl,
         record {
-          as-long = over-length r r′ (fieldsEnd (e .lens)) (fieldBytes c) (a .as-long);
-          begins = over-alike r r′ (fieldsEnd (e .lens)) (fieldsEnd (withC (e .lens) (length c))) (fieldBytes c) (omega (arith, none, bytes-length c)) (f .1);
+          as-long = over-length r r′ (fieldsEnd (e .lens)) (field c) (a .as-long);
+          begins = over-alike r r′ (fieldsEnd (e .lens)) (fieldsEnd (withC (e .lens) (length c))) (field c) (omega (arith, length-field c)) (f .1);
         },
       )
   taken-alike (init p) z =
       let f = fields-there (init p) z in (
         refl,
         record {
-          as-long = over-length r r′ (fieldsEnd (e .lens)) (fieldBytes (fieldOf p 0)) (a .as-long);
-          begins = over-alike r r′ (fieldsEnd (e .lens)) (fieldsEnd (withC (e .lens) (length (fieldOf p 0)))) (fieldBytes (fieldOf p 0)) (omega (arith, none, bytes-length (fieldOf p 0))) (f .1);
+          as-long = over-length r r′ (fieldsEnd (e .lens)) (field (fieldOf p 0)) (a .as-long);
+          begins = over-alike r r′ (fieldsEnd (e .lens)) (fieldsEnd (withC (e .lens) (length (fieldOf p 0)))) (field (fieldOf p 0)) (omega (arith, length-field (fieldOf p 0))) (f .1);
         },
       )
   taken-alike (reply p) z =
       let f = fields-there (reply p) z in
-      let b = around-alike (e .lens) r r′ (a .as-long) (f .0) (f .1) (fieldsEnd (withS (e .lens) (length (fieldOf p 0)) (length (fieldOf p 1)))) (fieldBytes (fieldOf p 0)) (fieldBytes (fieldOf p 1)) (omega (arith, none, bytes-length (fieldOf p 0), bytes-length (fieldOf p 1))) in
+      let b = around-alike (e .lens) r r′ (a .as-long) (f .0) (f .1) (fieldsEnd (withS (e .lens) (length (fieldOf p 0)) (length (fieldOf p 1)))) (field (fieldOf p 0)) (field (fieldOf p 1)) (omega (arith, length-field (fieldOf p 0), length-field (fieldOf p 1))) in
       (refl, record { as-long = b .0; begins = b .1 })
   taken-alike (secret cl x kem kPq ks s) z =
       let f = fields-there (secret cl x kem kPq ks s) z in
@@ -318,14 +270,14 @@ module _ (e : Exchange) (r r′ : List ℕ) (a : Alike e r r′) where
 
   -- both I laid behind them
   again-alike : (m : ℕ) (ic is : List ℕ) → Alike (againAfter e (length r) m ic is) (againRoom e r m ic is) (againRoom e r′ m ic is)
-  unfolding againAfter againRoom fieldBytes
+  unfolding againAfter againRoom
   again-alike m ic is =
       rw (sym (a .as-long))
-      (begun-alike (eqb (againNumber e (length r) m ic is) 0) (begunAgain e m (length ic) (length is)) e r r′ (fieldBytes ic ++ fieldBytes is) (versionsEnd (e .lens))
+      (begun-alike (eqb (againNumber e (length r) m ic is) 0) (begunAgain e m (length ic) (length is)) e r r′ (field ic ++ field is) (versionsEnd (e .lens))
       (λ z. record {
-        as-long = over-length r r′ (versionsEnd (e .lens)) (fieldBytes ic ++ fieldBytes is) (a .as-long);
-        begins = over-alike r r′ (versionsEnd (e .lens)) (fieldsEnd (againLengths (e .lens) (length ic) (length is))) (fieldBytes ic ++ fieldBytes is)
-            (omega (arith, none, bytes-length ic, bytes-length is, length-append (fieldBytes ic) (fieldBytes is)))
+        as-long = over-length r r′ (versionsEnd (e .lens)) (field ic ++ field is) (a .as-long);
+        begins = over-alike r r′ (versionsEnd (e .lens)) (fieldsEnd (againLengths (e .lens) (length ic) (length is))) (field ic ++ field is)
+            (omega (arith, fieldLength-none 0 refl, length-field ic, length-field is, length-append (field ic) (field is)))
             (versions-alike (e .stage) refl (not-failed m ic is (eqb-true (againNumber e (length r) m ic is) 0 z)));
       })
       a)
@@ -355,19 +307,10 @@ alike e r r′ a (q ∷ qs) =
 -- ---- what the signature step writes
 
 -- a field's bytes behind its four length bytes
-body : (r r′ : List ℕ) (n at len : ℕ) → length r ≡ length r′ → n ≤ length r → (0 < len → at + 4 + len ≤ n) → take n r ≡ take n r′
+body : (r r′ : List ℕ) (n at len : ℕ) → length r ≡ length r′ → n ≤ length r → at + fieldLength len ≤ n → take n r ≡ take n r′
     → take len (drop (at + 4) r) ≡ take len (drop (at + 4) r′)
 body r r′ n at zero l h k t = refl
-body r r′ n at (suc len) l h k t = part r r′ n (at + 4) (suc len) l h (k (omega arith)) t
-
--- the last field's
-last-body : (r r′ : List ℕ) (at f len : ℕ) → length r ≡ length r′ → at + f ≤ length r → (0 < len → 4 + len ≤ f) → take (at + f) r ≡ take (at + f) r′
-    → take len (drop (at + 4) r) ≡ take len (drop (at + 4) r′)
-last-body r r′ at f len l h k t = body r r′ (at + f) at len l h (λ p. let m = k p in omega arith) t
-
--- a field's length among missing ones
-alone : (f z m : ℕ) → z + z + z + z + z + z + z ≡ 0 → m ≤ z + z + z + z + f + z + z → m ≤ f
-alone f z m e h = omega arith
+body r r′ n at (suc len) l h k t = part r r′ n (at + 4) (suc len) l h (omega (arith, fieldLength-some (suc len) (λ z. omega arith))) t
 
 module _ (e : Exchange) (r r′ : List ℕ) (a : Alike e r r′) (g : List ℕ) (out kOut : ℕ) where
   reply-alike : number e r (sign g out kOut) ≡ 0 → replyOf e r g ≡ replyOf e r′ g
@@ -375,8 +318,8 @@ module _ (e : Exchange) (r r′ : List ℕ) (a : Alike e r r′) (g : List ℕ) 
       let l = e .lens in
       let f = fields-there e r r′ a (sign g out kOut) z in
       ap₂ (λ (x y : List ℕ). replyBytes x y g)
-      (body r r′ (fieldsEnd l) (headEnd l) (l .ks) (a .as-long) (f .0) (λ p. let m = some (l .ks) p in omega (arith, none)) (f .1))
-      (last-body r r′ _ _ (l .s) (a .as-long) (f .0) (λ p. alone _ _ _ none (some (l .s) p)) (f .1))
+      (body r r′ (fieldsEnd l) (headEnd l) (l .ks) (a .as-long) (f .0) (omega arith) (f .1))
+      (body r r′ (fieldsEnd l) (headEnd l + fieldLength (l .ks) + fieldLength (l .c)) (l .s) (a .as-long) (f .0) (omega arith) (f .1))
 
   -- REPLY's output, whether the step is accepted or not
   pub sign-alike : (o : List ℕ) → outputAfter (number e r (sign g out kOut)) o (replyOf e r g) ≡ outputAfter (number e r′ (sign g out kOut)) o (replyOf e r′ g)
