@@ -69,9 +69,11 @@ fn connection(name: &[u8]) -> Result<[usize; 2], Refusal> {
     let (mut server_exchange, mut server_room) = ([0; EXCHANGE], [0; ROOM]);
     let client = Client::start(method, greeting, &mut client_exchange, &mut client_room)?;
     let server = Server::start(method, greeting, &mut server_exchange, &mut server_room)?;
-    let (client, server) = complete(method, client, server)?;
+    let (mut client, mut server) = complete(method, client, server)?;
     let (first, id) = (client.hash_input().len(), client.session());
     assert_eq!((id.id(), id.completed()), (client.h(), 1));
+    client.wipe_room();
+    server.wipe_room();
 
     // rekeying: new KEXINITs, any method that they have in common, and here another hash; the session identifier stays
     let kex = [&b"ecdh-sha2-nistp521,"[..], name].concat();

@@ -583,7 +583,8 @@ impl<R> Exchange<'_, R, SecretDone> {
 
 impl<'r, R> Exchange<'r, R, Complete> {
     /// Begins again, to rekey: in the same role, in any method, with new I_C and I_S behind the version lines that stand in the room. K and H
-    /// are gone then, and keys with them: derive first. The last exchange's K stays in the room until it is written over.
+    /// are gone then, and keys with them: derive first. The last exchange's K stays in the room until it is written over, or wiped
+    /// (`wipe_room`).
     pub fn again(mut self, method: Method, ic: &[u8], is: &[u8]) -> Result<Exchange<'r, R, Started>, Stopped<Self>> {
         let Lent { exchange, room } = &mut self.lent;
         let number = raw::again(*exchange, room, method.number(), ic, is);
@@ -592,6 +593,14 @@ impl<'r, R> Exchange<'r, R, Complete> {
 }
 
 impl<R> Exchange<'_, R, Complete> {
+    /// Wipes the room behind the version lines, K among it: keys and a beginning again need none of it. The hash input is gone then.
+    pub fn wipe_room(&mut self) {
+        // each stands behind its four length bytes
+        let behind = |room: &[u8], at: usize| at + 4 + room[at..at + 4].iter().fold(0, |n, b| n * 256 + *b as usize);
+        let versions = behind(self.lent.room, behind(self.lent.room, 0));
+        raw::wipe(&mut self.lent.room[versions..]);
+    }
+
     /// A key of so many bytes, 1 to `KEY_MOST`, by RFC 4253, section 7.2, with the session identifier that the exchange holds. It is written into
     /// `key`. Fewer bytes are a beginning of what more would be.
     pub fn derive(&self, letter: Letter, length: usize, key: &mut Key) -> Result<(), Refusal> {
@@ -606,5 +615,35 @@ impl<R> Exchange<'_, R, Complete> {
     /// What H is the hash of. K is its end.
     pub fn hash_input(&self) -> &[u8] {
         &self.lent.room[..self.stage.hashed.input]
+    }
+}
+
+#[cfg(test)]
+mod tests {
+    use super::*;
+    use crate::{Method, INIT, ROOM};
+
+    /// A complete exchange's room that was wiped holds both version lines, and no K; what begins again in it is as ever.
+    #[test]
+    fn wiped_room() {
+        let greeting = Greeting { vc: b"c", vs: b"s", ic: &[20], is: &[20] };
+        let (mut exchange, mut room) = ([0; EXCHANGE], [0xa5; ROOM]);
+        let client = Client::start(Method::Curve25519Sha256, greeting, &mut exchange, &mut room).unwrap();
+        let client = client.own_c(&[1; 32], &mut [0; INIT]).unwrap().0;
+        // K_S, S and signature of 1, 32 and 1 bytes
+        let mut reply = [1; 1 + 5 + 36 + 5];
+        (reply[0], reply[9]) = (31, 32);
+        for zero in [1, 2, 3, 6, 7, 8, 42, 43, 44] {
+            reply[zero] = 0;
+        }
+        let client = client.read_reply(&reply).unwrap().0;
+        let client = client.take_secret(Classical::Given(&[1; 32]), Kem::Absent).unwrap();
+        let mut client = client.verdict(true, true, &mut K::new()).unwrap();
+        client.wipe_room();
+        let (versions, rest) = client.lent.room.split_at(10);
+        assert_eq!(versions, b"\0\0\0\x01c\0\0\0\x01s");
+        assert!(rest.iter().all(|b| *b == 0));
+        let client = client.again(Method::Curve25519Sha256, &[20, 1], &[20, 2]).unwrap();
+        assert!(client.lent.room.starts_with(b"\0\0\0\x01c\0\0\0\x01s\0\0\0\x02\x14\x01\0\0\0\x02\x14\x02"));
     }
 }
