@@ -79,8 +79,8 @@ h-put e l k h h′ m n =
 -- ---- the session
 
 -- p has the bytes ahead of the session, and x the session's first i
-session-over : (p x y z y′ : List ℕ) (n : ℕ) → length (p ++ x) ≡ n → length y ≡ length y′ → over (p ++ (x ++ (y ++ z))) n y′ ≡ p ++ (x ++ (y′ ++ z))
-session-over p x y z y′ n e l =
+session-laid : (p x y z y′ : List ℕ) (n : ℕ) → length (p ++ x) ≡ n → length y ≡ length y′ → over (p ++ (x ++ (y ++ z))) n y′ ≡ p ++ (x ++ (y′ ++ z))
+session-laid p x y z y′ n e l =
     (λ i. over (joined y i) (sym e i) y′)
     ∙ over-middle (p ++ x) y z y′ l
     ∙ sym (joined y′)
@@ -103,7 +103,7 @@ module _ (e : Exchange) (l : length (e .k) ≡ kSize) (m : length (e .h) ≡ hSi
 
   count-put : (id : List ℕ) (len c c′ : ℕ) → putCount (encoded (with-session (record { id = id; len = len; count = c }))) c′ ≡ encoded (with-session (record { id = id; len = len; count = c′ }))
   unfolding encoded ahead
-  count-put id len c c′ = session-over (headOf e ++ e .k ++ e .h) (bytes16 len) (bytes64 c) id (bytes64 c′) 156 (length-append (headOf e ++ e .k ++ e .h) (bytes16 len) ∙ ap (λ (i : ℕ). i + 2) length-ahead) refl
+  count-put id len c c′ = session-laid (headOf e ++ e .k ++ e .h) (bytes16 len) (bytes64 c) id (bytes64 c′) 156 (length-append (headOf e ++ e .k ++ e .h) (bytes16 len) ∙ ap (λ (i : ℕ). i + 2) length-ahead) refl
 
   id-put : (h : List ℕ) (len : ℕ) → length h ≡ hSize → put16 (over (encoded e) 164 h) 154 len ≡ encoded (with-session (record { id = h; len = len; count = e .session .count }))
   unfolding encoded ahead
@@ -113,9 +113,9 @@ module _ (e : Exchange) (l : length (e .k) ≡ kSize) (m : length (e .h) ≡ hSi
       let x = bytes16 (t .len) ++ bytes64 (t .count) in
       ap (λ (b : List ℕ). put16 b 154 len)
       ((λ i. over (p ++ (x ++ sym (append-nil (t .id)) i)) 164 h)
-      ∙ session-over p x (t .id) [] h 164 (length-append p x ∙ ap (λ (i : ℕ). i + 10) length-ahead) (n ∙ sym k)
+      ∙ session-laid p x (t .id) [] h 164 (length-append p x ∙ ap (λ (i : ℕ). i + 10) length-ahead) (n ∙ sym k)
       ∙ (λ i. p ++ (x ++ append-nil h i)))
-      ∙ session-over p [] (bytes16 (t .len)) (bytes64 (t .count) ++ h) (bytes16 len) 154 (ap length (append-nil p) ∙ length-ahead) refl
+      ∙ session-laid p [] (bytes16 (t .len)) (bytes64 (t .count) ++ h) (bytes16 len) 154 (ap length (append-nil p) ∙ length-ahead) refl
 
   -- one more exchange completed
   module _ (a : Short (e .lens)) (b : SmallSession (e .session)) where

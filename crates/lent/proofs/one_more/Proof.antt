@@ -1,6 +1,5 @@
 -- `lent::one_more` meets its contract. Assumes nothing.
 use borrow.Author.Needs.{needs}
-use native.Mathlib.Omega.{arith}
 use denote.Ref.{now}
 use Rattle.lent.proofs.LentLaws.{one-more-put}
 use Rattle.lent.proofs.one_more.Statement.{statement}
@@ -12,8 +11,8 @@ count-in-requires c κs = search needs
 name-session-requires : tie.Need-name-session-requires
 name-session-requires c κs = search needs
 
-add-put-count : tie.Need-add-put-count
-add-put-count c = let n = c .before .before .before .before .before .count-in .ensures .0 in let h = c .before .before .before .before .before .before .before .before .pre in search (needs, n, h)
+wrapping-add-u64-requires : tie.Need-wrapping-add-u64-requires
+wrapping-add-u64-requires c κs = search needs
 
 put-count-requires : tie.Need-put-count-requires
 put-count-requires c κs = search needs
@@ -23,7 +22,7 @@ same-length c = search needs
 
 returns : tie.Need-returns
 returns c =
-    one-more-put (now (c .before .before .before .before .before .before .before .before .before .before .before .args .ex)) _ _ _ (c .before .before .before .before .before .before .before .before .count-in .ensures .0) (c .before .before .before .before .before .before .name-session .ensures) (c .before .before .put-count .ensures)
+    one-more-put (now (c .before .before .before .before .before .before .before .before .before .before .before .before .args .ex)) _ _ _ _ (c .before .before .before .wrapping-add-u64 .ensures) (c .before .before .before .before .before .before .before .before .before .count-in .ensures .0) (c .before .before .before .before .before .before .before .name-session .ensures) (c .before .before .put-count .ensures)
 
 pub one-more-spec : {M : Type 1} → statement M
 one-more-spec =
@@ -31,7 +30,7 @@ one-more-spec =
     (tie.spec
     count-in-requires
     name-session-requires
-    add-put-count
+    wrapping-add-u64-requires
     put-count-requires
     same-length
     returns)

@@ -53,7 +53,7 @@ returns c =
     call-refused b r q (now (a .k-out) ∷ []) _ m (fault-read _ b (c .before .before .before .before .before .before .before .before .step-number .ensures .1)) (c .before .before .before .before .before .before .before .if1 .taken) _ _ _ (c .before .before .before .before .refuse .ensures .0) (c .before .before .before .before .refuse .ensures .1) (c .before .before .before .before .refuse .ensures .2)
 
 finish-requires : tie.Need-finish-requires
-finish-requires c κs = accepts (c .before .before) .count-open
+finish-requires c κs = search needs
 
 same-length-3 : tie.Need-same-length-3
 same-length-3 c = search needs

@@ -124,7 +124,7 @@ put-reply-requires c κs =
     omega (arith, h .ks-most, h .s-most, h .g-most, h .out-least)
 
 finish-requires : tie.Need-finish-requires
-finish-requires c κs = accepts (c .before .before .before .before .before .before .before .before .before .before .before .before .before) .count-open
+finish-requires c κs = search needs
 
 add-t16-2 : tie.Need-add-t16-2
 add-t16-2 c =
