@@ -1,4 +1,4 @@
--- The choice from two KEXINIT payloads. Assumes nothing.
+-- The choice from two KEXINIT payloads (SPECIFICATION 4.5 to 4.8). Assumes nothing.
 use Prim.Native.Nat.{ℕ, zero, suc}
 use mathlib.Core.List.{List, [], _∷_}
 use mathlib.Core.Bool.{Bool, false, cond, not, _&&_, _||_}

@@ -1,4 +1,4 @@
--- Demand 3. Whatever the peer, the primitives and the caller put in: after every accepted start, in every room, and after every list of
+-- Demand 3 (SPECIFICATION 12). Whatever the peer, the primitives and the caller put in: after every accepted start, in every room, and after every list of
 -- calls of the steps and calls to begin again, in any order and with refused ones and those of the other role among them, what `Held` says of the book
 -- holds of their answers, of the exchange and of the room. Assumes nothing.
 use Prim.Native.Nat.{ℕ}

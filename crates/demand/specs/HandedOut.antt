@@ -1,4 +1,4 @@
--- What a further call hands out after an accepted start and any history, by the book of the same calls: the hash input, H, REPLY, K, and the keys.
+-- What a further call hands out (SPECIFICATION 12.5) after an accepted start and any history, by the book of the same calls: the hash input, H, REPLY, K, and the keys.
 -- The call is told by `Reads.Learnt` of its own function, as those of the history are; deriving is none of these. Assumes nothing.
 use Prim.Native.Nat.{ℕ}
 use mathlib.Core.Path.{_≡_}

@@ -1,4 +1,4 @@
--- Document 01's effects of a number, on the bytes that a host lends: 1 to 5 change nothing, a peer's fault leaves role, method, session and its
+-- The effects of a number (SPECIFICATION 2.3, 9.12), on the bytes that a host lends: 1 to 5 change nothing, a peer's fault leaves role, method, session and its
 -- number alone; a refused beginning changes nothing. Assumes nothing.
 use Prim.Native.Nat.{ℕ}
 use mathlib.Core.Path.{_≡_, refl, sym, ap, _∙_}

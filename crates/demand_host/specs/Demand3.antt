@@ -1,4 +1,4 @@
--- Demand 3 where the host stands. After every accepted start, whatever the lent bytes held before it, in every room, and after every list
+-- Demand 3 where the host stands (SPECIFICATION 12, 13). After every accepted start, whatever the lent bytes held before it, in every room, and after every list
 -- of calls of the six steps' exports and of the one that begins again: what `Held` says of the book holds of the numbers that they returned, of the exchange in the
 -- bytes that the host holds, and of the room; and each of those bytes is told by the book and the numbers. So after a fault every number is
 -- 1, the room is zeros, and of the exchange only role, method, session and the fault's number are left. Assumes nothing.

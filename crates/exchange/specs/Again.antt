@@ -1,4 +1,4 @@
--- Beginning again, once an exchange is complete: what it answers and leaves. And the calls of a list: those of the steps, and those to begin again.
+-- Beginning again, once an exchange is complete: what it answers and leaves (SPECIFICATION 11). And the calls of a list: those of the steps, and those to begin again.
 -- Assumes nothing.
 use Prim.Native.Nat.{ℕ, _+_}
 use mathlib.Core.List.{List, _++_}

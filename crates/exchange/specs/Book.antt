@@ -1,4 +1,4 @@
--- The book, document 01's word for the plain account that demand 3 holds an exchange to. It is fed the arguments of the start and of
+-- The book, the specification's word for the plain account that demand 3 holds an exchange to (SPECIFICATION 12.2, 12.3). It is fed the arguments of the start and of
 -- the calls, with the lengths of room and outputs, and never sees the exchange or the room's bytes. Assumes nothing.
 use Prim.Native.Nat.{ℕ, _+_}
 use mathlib.Core.List.{List, [], _∷_, _++_}

@@ -1,4 +1,4 @@
--- Document 01's causes on what the caller hands in and on what the peer sent: for the start and each step the first that holds.
+-- The causes on what the caller hands in and on what the peer sent (SPECIFICATION 2.4, 9.5 to 9.11, 11.1.2): for the start and each step the first that holds.
 -- Steps and book share these, the wire encodings and the method row. Assumes nothing.
 use Prim.Native.Nat.{ℕ}
 use mathlib.Core.List.{List, [], _∷_, _++_}

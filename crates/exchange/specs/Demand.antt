@@ -1,4 +1,4 @@
--- Demand 3 over the definitions that the contracts cite; the crate demand states it over the functions' own contracts. Assumes nothing.
+-- Demand 3 (SPECIFICATION 12.4) over the definitions that the contracts cite; the crate demand states it over the functions' own contracts. Assumes nothing.
 use Prim.Native.Nat.{ℕ, _≤_}
 use mathlib.Core.Path.{_≡_}
 use mathlib.Core.List.{List, [], _∷_}

@@ -1,4 +1,4 @@
--- The numbers given back: which of them are a peer's fault, and what kind of answer each is. Steps and book share these. Assumes nothing.
+-- The numbers given back (SPECIFICATION 2.2, 2.3): which of them are a peer's fault, and what kind of answer each is. Steps and book share these. Assumes nothing.
 use Prim.Native.Nat.{ℕ}
 use mathlib.Core.Bool.{Bool, cond}
 use lib.Dec.{eqb}

@@ -1,4 +1,4 @@
--- The exchange's record: which records fit, and what is due on them. Assumes nothing.
+-- The exchange's record: which records fit, and what is due on them (SPECIFICATION 9.1 to 9.3). Assumes nothing.
 use Prim.Native.Nat.{ℕ, _+_}
 use mathlib.Core.List.{List}
 use mathlib.Core.Bool.{Bool, true, false, cond, _&&_}

@@ -1,4 +1,4 @@
--- What the start and each step answer and leave: the definitions that the contracts cite. Assumes nothing.
+-- What the start and each step answer and leave: the definitions that the contracts cite (SPECIFICATION 9.4 to 9.13). Assumes nothing.
 use Prim.Native.Nat.{ℕ, _+_, _≤_, _<_}
 use mathlib.Core.List.{List, _++_}
 use mathlib.Core.Bool.{Bool, cond}

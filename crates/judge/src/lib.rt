@@ -1,4 +1,4 @@
-// Document 01's causes in what a start or a step is handed, but for the secret step's.
+// The causes in what a start or a step is handed (SPECIFICATION 9.5 to 9.11), but for the secret step's.
 ghost use mathlib.Core.Path.{_≡_};
 ghost use lib.ListN.{length};
 ghost use Rattle.exchange.specs.Causes.{kexinitOk, startCause, ownCCause, signCause, verdictCause};

@@ -1,4 +1,4 @@
-// Document 01's causes in what the peer sent: INIT and REPLY, by the method.
+// The causes in what the peer sent, INIT and REPLY, by the method (SPECIFICATION 7.3).
 use messages::Layout;
 ghost use mathlib.Core.Path.{_≡_};
 ghost use Rattle.messages.specs.Payload.{messageCause};

@@ -1,4 +1,4 @@
-// Document 01's causes in what the secret step is handed: the primitives' outcomes, X, K_PQ, a server's K_S and S.
+// The causes in what the secret step is handed (SPECIFICATION 9.9): the primitives' outcomes, X, K_PQ, a server's K_S and S.
 use exchange::Classical;
 use exchange::Kem;
 ghost use mathlib.Core.Path.{_≡_};

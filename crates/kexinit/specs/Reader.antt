@@ -1,5 +1,5 @@
 -- KEXINIT as it is read (RFC 4253, section 7.1): judged whole, then opened for one list. Names are judged only as they are yielded. Stricter
--- than the RFC, as document 01 says: 4,096 bytes at most. Assumes nothing.
+-- than the RFC, as SPECIFICATION 4.1.3 says: 4,096 bytes at most. Assumes nothing.
 use Prim.Native.Nat.{ℕ, _+_, _-_}
 use mathlib.Core.List.{List}
 use mathlib.Core.Bool.{false, cond, not}

@@ -117,7 +117,7 @@ module _ (room : List ℕ) (b : Book) (e : Exchange) (room′ : List ℕ) (s : S
                 ∙ output-refused _ out (keyTold b letter len) (λ z. let v : ⊥ = omega (arith, m, z) in v),
           )
 
--- a first exchange's identifier is its own H, and so its keys are those of request #105
+-- a first exchange's identifier is its own H
 pub first-identifier : (b : Book) → b .past ≡ [] → hasAll b ≡ true → idTold b ≡ digestTold b
 unfolding finished
 first-identifier b p h = rw (h, p)

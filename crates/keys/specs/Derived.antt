@@ -1,4 +1,4 @@
--- A key of an exchange: what is judged, and what is derived. Assumes nothing.
+-- A key of an exchange: what is judged, and what is derived (SPECIFICATION 10). Assumes nothing.
 use Prim.Native.Nat.{ℕ}
 use mathlib.Core.List.{List}
 use mathlib.Core.Bool.{_&&_}

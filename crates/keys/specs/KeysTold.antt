@@ -1,4 +1,4 @@
--- A key by the book, which never sees the exchange. Assumes nothing.
+-- A key by the book, which never sees the exchange (SPECIFICATION 12.5). Assumes nothing.
 use Prim.Native.Nat.{ℕ}
 use mathlib.Core.List.{List, []}
 use Rattle.sha_words.specs.Message.{sha2}

@@ -1,4 +1,4 @@
--- Documents 01's and 02's sizes and the boundary's own, one table for every definition above. Assumes nothing.
+-- The specification's sizes (docs/SPECIFICATION.md, 6) and the boundary's own, one table for every definition above. Assumes nothing.
 use Prim.Native.Nat.{ℕ}
 
 -- a version, V_C or V_S: at most so many bytes
@@ -85,7 +85,7 @@ exchangeMark = 3
 abbrev pub libraryVersion : ℕ
 libraryVersion = 5
 
--- the room, document 01's word for the buffer that is lent for the hash input: at least 32 + 506 + 8,192 + 2,048 + 3,330 + 48 bytes
+-- the room, the specification's word for the buffer that is lent for the hash input: at least 32 + 506 + 8,192 + 2,048 + 3,330 + 48 bytes
 abbrev pub roomLeast : ℕ
 roomLeast = 14156
 

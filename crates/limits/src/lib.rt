@@ -1,4 +1,4 @@
-// Documents 01's and 02's sizes and the boundary's own, one table for every layer above, and whether a number lies between two of them. specs/Limits.antt
+// The specification's sizes (docs/SPECIFICATION.md, 6) and the boundary's own, one table for every layer above, and whether a number lies between two of them. specs/Limits.antt
 // has the same table for the contracts.
 ghost use mathlib.Core.Path.{_≡_};
 ghost use Rattle.limits.specs.Range.{within};

@@ -1,5 +1,5 @@
--- INIT and REPLY (RFC 5656, section 4; RFC 8731): their bytes, and their fields as they are read. Stricter than the RFC, as document 01
--- says: 32,768 bytes at most. Assumes nothing.
+-- INIT and REPLY (RFC 5656, section 4; RFC 8731): their bytes, and their fields as they are read. Stricter than the RFC, as SPECIFICATION
+-- 6 says: 32,768 bytes at most. Assumes nothing.
 use Prim.Native.Nat.{ℕ}
 use mathlib.Core.List.{List, [], _∷_, _++_}
 use Rattle.limits.specs.Limits.{payloadMost}

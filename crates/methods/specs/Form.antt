@@ -1,4 +1,4 @@
--- The form that a row wants of a public value, ours or the peer's. Assumes nothing.
+-- The form that a row wants of a public value, ours or the peer's (SPECIFICATION 5.2). Assumes nothing.
 use Prim.Native.Nat.{ℕ}
 use mathlib.Core.List.{List}
 use mathlib.Core.Bool.{Bool, true, cond, _&&_}

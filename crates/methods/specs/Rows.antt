@@ -1,4 +1,4 @@
--- Document 01's table of methods, line for line. Assumes nothing.
+-- The table of methods, line for line (SPECIFICATION 5.1). Assumes nothing.
 use Prim.Native.Nat.{ℕ, _+_, _-_}
 use Prim.Native.String.{String}
 use mathlib.Core.List.{List, [], _∷_, _++_}

@@ -1,4 +1,4 @@
-// Document 01's table of methods, a row for each number, with the sizes and rules of its exchange: its columns, and the form of a public
+// The table of methods (SPECIFICATION 5.1), a row for each number, with the sizes and rules of its exchange: its columns, and the form of a public
 // value. The rows themselves are in specs/Rows.antt.
 ghost use mathlib.Core.Path.{_≡_};
 ghost use Rattle.methods.specs.Rows.{hybrid, rowOf};

@@ -1,4 +1,4 @@
--- A cursor over a list inside a payload: the names that it has ahead, and what it yields next. Assumes nothing.
+-- A cursor over a list inside a payload: the names that it has ahead, and what it yields next (SPECIFICATION 4.4). Assumes nothing.
 use Prim.Native.Nat.{ℕ, _+_, _-_}
 use mathlib.Core.List.{List, [], _∷_}
 use mathlib.Core.Bool.{true, false, cond, _&&_}

@@ -1,4 +1,4 @@
--- KEXINIT (RFC 4253, section 7.1) as a record and as bytes, and why it is not written. Stricter than the RFC, as document 01 says: 4,096 bytes at most.
+-- KEXINIT (RFC 4253, section 7.1) as a record and as bytes, and why it is not written. Stricter than the RFC, as SPECIFICATION 4.1.3 says: 4,096 bytes at most.
 -- Assumes nothing.
 use Prim.Native.Nat.{ℕ}
 use mathlib.Core.List.{List, [], _∷_, _++_}

@@ -1,4 +1,4 @@
--- The shared secret K: its bytes in the hash input, and the K record. Assumes nothing.
+-- The shared secret K: its bytes in the hash input, and the K record (SPECIFICATION 5.3 to 5.5). Assumes nothing.
 use Prim.Native.Nat.{ℕ, zero, suc, _-_}
 use mathlib.Core.Path.{_≡_}
 use mathlib.Core.List.{List, [], _∷_, _++_}

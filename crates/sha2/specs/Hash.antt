@@ -1,4 +1,4 @@
--- A hash that is fed in parts: which states fit, and what starting, feeding and finishing answer. Assumes nothing.
+-- A hash that is fed in parts: which states fit, and what starting, feeding and finishing answer (SPECIFICATION 8.2 to 8.5). Assumes nothing.
 use Prim.Native.Nat.{ℕ, _+_, _%_, _≤_, _<_}
 use mathlib.Core.Path.{_≡_}
 use mathlib.Core.List.{List, [], _∷_, _++_}

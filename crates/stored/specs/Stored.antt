@@ -1,4 +1,4 @@
--- The exchange as bytes, and the answers that go by them. Assumes nothing.
+-- The exchange as bytes (SPECIFICATION 13.2, 13.3), and the answers that go by them. Assumes nothing.
 use Prim.Native.Nat.{ℕ, _+_, _*_, _/_, _%_, _<_}
 use mathlib.Core.List.{List, [], _∷_, _++_}
 use mathlib.Core.Bool.{Bool, cond, _&&_, _||_}

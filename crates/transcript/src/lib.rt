@@ -1,4 +1,4 @@
-// The transcript as it is built in a lent buffer, which document 01 calls the room: fields as strings one behind another, a field put
+// The transcript as it is built in a lent buffer, which the specification calls the room: fields as strings one behind another, a field put
 // in ahead of another, and all of it wiped.
 ghost use mathlib.Core.Path.{_≡_};
 ghost use mathlib.Core.List.{[], _∷_};

@@ -1,4 +1,4 @@
--- The first cause in an order: document 01 gives a number above 0 exactly when its cause is the first to hold, else 0.
+-- The first cause in an order (SPECIFICATION 2.1.1): a number above 0 is given exactly when its cause is the first to hold, else 0.
 -- Assumes nothing.
 use Prim.Native.Nat.{ℕ}
 use mathlib.Core.Bool.{Bool, cond}

@@ -1,4 +1,4 @@
--- Document 01, "Worked by hand": P1 to P12, a line of one table each (P3 has two). An example that leaves bytes open holds for every
+-- SPECIFICATION 14, worked examples: 14.1 to 14.12, a line of one table each (14.3 has two). An example that leaves bytes open holds for every
 -- blanks of them. Assumes nothing.
 use Prim.Native.Nat.{ℕ, _-_, _≤_}
 use mathlib.Core.Path.{_≡_}
@@ -21,13 +21,13 @@ pub data Result : Type 0 where
   body : ℕ → List ℕ → Result
   refused : ℕ → Result
 
--- a line of the table: what the definitions say, and what document 01 says
+-- a line of the table: what the definitions say, and what the specification says
 pub record Example : Type 0 where
   pub found : Result
   pub stated : Result
 
--- what the examples leave open: K_PQ in P3; the other bytes of X, 31 in P4 and P5 and 30 in P6 and P7; the two's complement bytes
--- that stand for -128 and for -129; in P12 the method, K_S, S and what is left of the third length
+-- what the examples leave open: K_PQ in 14.3; the other bytes of X, 31 in 14.4 and 14.5 and 30 in 14.6 and 14.7; the two's complement bytes
+-- that stand for -128 and for -129; in 14.12 the method, K_S, S and what is left of the third length
 pub record Blanks : Type 0 where
   pub b : ℕ
   pub r : List ℕ
@@ -57,29 +57,29 @@ bodyIs n k = body (length k - 4) (take n (drop 4 k))
 
 abbrev pub examples : Blanks → List Example
 examples o =
-    -- P1: X of 32 bytes, all zero but a last 1
+    -- 14.1: X of 32 bytes, all zero but a last 1
     record { found = bytes (kIn 4 (zeros 31 ++ 1 ∷ [])); stated = bytes (0 ∷ 0 ∷ 0 ∷ 1 ∷ 1 ∷ []) }
-    -- P2: X of 32 zero bytes
+    -- 14.2: X of 32 zero bytes
     ∷ record { found = bytes (kIn 4 (zeros 32)); stated = bytes (0 ∷ 0 ∷ 0 ∷ 0 ∷ []) }
-    -- P3: X of 32 zero bytes, methods 1 and 9
+    -- 14.3: X of 32 zero bytes, methods 1 and 9
     ∷ record { found = refused (secretCause client 1 (Given 32) (zeros 32) Absent [] [] []); stated = refused 16 }
     ∷ record { found = refused (secretCause client 9 (Given 32) (zeros 32) Done (o .kPq) [] []); stated = refused 16 }
-    -- P4: first byte 7f
+    -- 14.4: first byte 7f
     ∷ record { found = bodyIs 1 (kIn 4 (0x7f ∷ o .b ∷ o .r)); stated = body 32 (0x7f ∷ []) }
-    -- P5: first byte 80
+    -- 14.5: first byte 80
     ∷ record { found = bodyIs 2 (kIn 4 (0x80 ∷ o .b ∷ o .r)); stated = body 33 (0x00 ∷ 0x80 ∷ []) }
-    -- P6: first bytes 00 7f
+    -- 14.6: first bytes 00 7f
     ∷ record { found = bodyIs 1 (kIn 4 (0x00 ∷ 0x7f ∷ o .r)); stated = body 31 (0x7f ∷ []) }
-    -- P7: first bytes 00 80
+    -- 14.7: first bytes 00 80
     ∷ record { found = bodyIs 2 (kIn 4 (0x00 ∷ 0x80 ∷ o .r)); stated = body 32 (0x00 ∷ 0x80 ∷ []) }
-    -- P8: the mpint -128
+    -- 14.8: the mpint -128
     ∷ record { found = bytes (mpint (o .low)); stated = bytes (0 ∷ 0 ∷ 0 ∷ 1 ∷ 0x80 ∷ []) }
-    -- P9: the mpint -129
+    -- 14.9: the mpint -129
     ∷ record { found = bytes (mpint (o .lower)); stated = bytes (0 ∷ 0 ∷ 0 ∷ 2 ∷ 0xff ∷ 0x7f ∷ []) }
-    -- P10: an mpint with the body 00 7f
+    -- 14.10: an mpint with the body 00 7f
     ∷ record { found = refused (readMpint (0 ∷ 0 ∷ 0 ∷ 2 ∷ 0x00 ∷ 0x7f ∷ []) .number); stated = refused 22 }
-    -- P11: the string "ab"
+    -- 14.11: the string "ab"
     ∷ record { found = bytes (string (ascii "ab")); stated = bytes (0 ∷ 0 ∷ 0 ∷ 2 ∷ 0x61 ∷ 0x62 ∷ []) }
-    -- P12: a REPLY cut in its third length
+    -- 14.12: a REPLY cut in its third length
     ∷ record { found = refused (replyCause (o .method) ((31 ∷ []) ++ (strings (o .ks ∷ o .s ∷ []) ++ o .cut))); stated = refused 12 }
     ∷ []
