@@ -19,6 +19,8 @@ RULE = re.compile(r"^(?:- |\| )\*\*(\d+\.\d+(?:\.\d+)?)\*\*(.*(?:\n(?!- |\||#|\n
 HEADING = re.compile(r"^#{2,3} (\d+(?:\.\d+)?) ", re.M)
 NUMBER = r"\d+(?:\.\d+){0,2}"
 SPAN = re.compile(rf"({NUMBER}) to ({NUMBER})")
+# numbers behind these are of sections elsewhere
+SOURCE = re.compile(r"(RFC \d+|FIPS [\d-]+|SEC 1|draft|sections?)[^|;()]*")
 # what was read before there was a specification of our own
 ELSEWHERE = re.compile(r"\b[Dd]ocuments? 0[0-9]|\b[Rr]equest #\d|\bG1\d\d[a-k]\b|\bopen-points\b")
 
@@ -62,7 +64,8 @@ def faults():
             yield f"docs/PROMISES.md: nothing is said of {number}"
     for number in sorted(promised - known):
         yield f"docs/PROMISES.md: there is no {number}"
-    for number in sorted(set(re.findall(r"(?<![\d.])\d+\.\d+\.\d+(?![\d.]*\d)", text + decisions)) - known):
+    own = SOURCE.sub("", text + decisions)
+    for number in sorted(set(re.findall(r"(?<![\d.])\d+\.\d+\.\d+(?![\d.]*\d)", own)) - known):
         yield f"docs: there is no {number}"
 
     listing = subprocess.run(["git", "ls-files", "--cached", "--others", "--exclude-standard"], capture_output=True, text=True)
