@@ -1,5 +1,5 @@
--- A name-list as a list of names (RFC 4251, section 5): empty, or names parted by single commas. Stricter than the RFC, as SPECIFICATION
--- 3.3.1 says: a name has at most 64 bytes. Assumes nothing.
+-- A name-list as a list of names (RFC 4251, sections 5 and 6; SPECIFICATION 3.3): empty, or names parted by single commas. Of the lists of languages
+-- it asks more than the RFC: a name has at most 64 bytes there, too. Assumes nothing.
 use Prim.Native.Nat.{ℕ}
 use mathlib.Core.List.{List, [], _∷_, _++_}
 use mathlib.Core.Bool.{Bool, cond, not, _&&_}
