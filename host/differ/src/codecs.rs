@@ -325,7 +325,7 @@ fn bad_list(lists: &[u8], ends: &[u64; 10]) -> u64 {
     0
 }
 
-/// Document 01's writer behind the table of ends: 4 also for a list that there is not, for bytes behind the last one, and for a
+/// The specification's writer behind the table of ends: 4 also for a list that there is not, for bytes behind the last one, and for a
 /// reserved number above 32 bits.
 fn kexinit_of(out: &mut [u8], cookie: &[u8], lists: &[u8], ends: &[u64; 10], follows: u64, reserved: u64) -> (u64, raw::Proposed) {
     let bad_list = bad_list(lists, ends);
