@@ -20,10 +20,10 @@ HEADERS = [f'host/header_{name}' for name in ('c', 'cc', 'san', 'small')]
 STACKS = [f'host/stack_{name}' for name in ('0', '2', 'lazy', 'small_0', 'small_2', 'small_lazy')]
 RUST = [f'cargo/release/{name}' for name in ('differ', 'captures', 'script', 'timing', 'plain_bench')]
 PROGRAMS = [ROOT / 'build' / name for name in ('bench', *HEADERS, *STACKS, *RUST)]
-# calls that are no words short, and about nothing that is there
+# calls about files and programs that are not there; '.' is an empty folder
 NOTHING = {
-    'bench_test.py': ['no/bench'], 'expect_sha2.py': ['--from', 'no/folder'], 'measure.py': ['no/timing', 'no/small'], 'refused.py': ['no_crate'],
-    'targets.py': ['no/script', 'no/answers'], 'captures': ['no/folder'],
+    'bench_test.py': [['no/bench'], ['.']], 'expect_sha2.py': [['--from', 'no/folder'], ['--from', '.']], 'measure.py': [['no/timing', 'no/small']],
+    'refused.py': [['no_crate']], 'targets.py': [['no/script', 'no/answers']], 'captures': [['no/folder']],
 }
 # and those that must have words
 WORDS = {'bench_test.py', 'expect_sha2.py', 'libcrypto.sh', 'measure.py', 'script', 'suite.sh', 'targets.py'}
@@ -49,10 +49,10 @@ def faults(path, folder):
     for words in wrong:
         if (answer := said([*command, *words], folder)) != (2, [], usage):
             yield f'the words {words}: {answer}'
-    if path.name in NOTHING:
-        status, out, errors = said([*command, *NOTHING[path.name]], folder)
+    for words in NOTHING.get(path.name, []):
+        status, out, errors = said([*command, *words], folder)
         if status not in (1, 2) or out or len(errors) != 1:
-            yield f'the words {NOTHING[path.name]}: {status}, {out}, {errors}'
+            yield f'the words {words}: {status}, {out}, {errors}'
 
 
 def main():
