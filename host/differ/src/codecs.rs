@@ -45,7 +45,7 @@ fn same<T: PartialEq<U> + Debug, U: Debug>(what: impl Fn() -> String, core: T, p
     if core == plain {
         return Ok(());
     }
-    Err(format!("{}\nthe core gives {:?}\nthe document  {:?}", what(), core, plain))
+    Err(format!("{}\nthe core gives {:?}\nplain Rust    {:?}", what(), core, plain))
 }
 
 /// An input that the core must leave.

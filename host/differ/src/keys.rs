@@ -37,9 +37,9 @@ impl Lent {
         let mut key = filled;
         let want = derived(exchange, letter, length, &mut key);
         let what = if number != want {
-            format!("the core gives {}, the document {}", number, want)
+            format!("the core gives {}, plain Rust {}", number, want)
         } else if self.key.bytes() != key {
-            format!("the output differs:\nthe core      {}\nthe document  {}", hex(self.key.bytes()), hex(&key))
+            format!("the output differs:\nthe core      {}\nplain Rust    {}", hex(self.key.bytes()), hex(&key))
         } else if self.exchange.bytes() != exchange {
             "the exchange was written to".into()
         } else {
