@@ -17,6 +17,7 @@ sys.dont_write_bytecode = True
 from captured import captures, string
 from command import asked, need, run
 from held import ROOT
+from kexinit_cases import METHODS as METHOD_NAMES
 from kexinit_cases import cases as kexinit_cases
 from published import METHODS, derived, of_records
 
@@ -254,6 +255,10 @@ def exchanges():
     yield [room, 'start 1 1 61*254 62 14 14'], ['0', '4 | ex 0.0.failed.4.']
     yield [room, 'start 1 1 61 62*254 14 14'], ['0', '4 | ex 0.0.failed.4.']
     yield [room, 'start 3 1 61 62 14 14'], ['0', '2 | ex 0.0.failed.2.']
+    # every method of the table that the tests go by, and no other
+    numbers = range(256)
+    yield [room, *(f'start 1 {n} 61 62 14 14' for n in numbers)], [
+        '0', *(f'0 | ex 1.{n}.started.0.1,1,1,1,0,0,0' if n in METHODS else '2 | ex 0.0.failed.2.' for n in numbers)]
     # C of 31 and 33 in method 1
     for n in (31, 33):
         payload = h(bytes([30]) + string(bytes(n)))
@@ -792,6 +797,7 @@ def main():
         held(repr(line), (status, answers, len(errors)), (1, ['0 4:- 4:-'], 1))
         if not ''.join(errors).startswith('bench: line 4: '):
             failed.append(f'{line!r}: the error is {errors}')
+    held('names of methods', len(METHOD_NAMES), len(METHODS))
     usage = 'usage: bench < CALLS'
     for word in ('--help', '-h'):
         status, answers, errors = said(bench, '', word)

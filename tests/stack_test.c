@@ -276,8 +276,7 @@ int main(int argc, char **argv)
     memset(value, 4, sizeof value);
     for (i = 0; i < sizeof x; i++) x[i] = (uint8_t)((r = r * 1664525 + 1013904223) >> 24);
     for (i = 0; i < sizeof k_pq; i++) k_pq[i] = (uint8_t)((r = r * 1664525 + 1013904223) >> 24);
-    for (method = 1; method <= 9; method++) {
-        if (castulfrisa_method_sizes(method, &z) != 0) return 1;
+    for (method = 1; castulfrisa_method_sizes(method, &z) == 0; method++) {
         hashed();
         started(CASTULFRISA_CLIENT);
         secret(SECRET_CLIENT);

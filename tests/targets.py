@@ -82,6 +82,9 @@ def tried(machine, variant, script, answers, folders):
 
 def main():
     script, answers, *names = asked(__doc__, 2)
+    built = said('clang.sh', ['sh', ROOT / 'host/clang.sh', 'targets']).decode().split()
+    if built != list(MACHINES):
+        refuse(f'{NAME}: archives are built for {", ".join(built)}, and machines.py has {", ".join(MACHINES)}')
     if strange := set(names) - OTHERS.keys():
         refuse(f'{NAME}: no machine {", ".join(strange)}; there are {", ".join(OTHERS)}')
     machines = [OTHERS[name] for name in names or OTHERS]

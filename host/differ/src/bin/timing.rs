@@ -232,7 +232,7 @@ fn counted(words: &[String]) -> bool {
         }
         return true;
     }
-    let Some(method) = what.parse().ok().filter(|m| (1..=9).contains(m)) else { return false };
+    let Some(method) = what.parse().ok().filter(|m| plain::method(*m).is_some()) else { return false };
     let (f, mut room) = (fed(method), vec![0; plain::ROOM]);
     for _ in 0..count {
         black_box(if core { on_core(black_box(&f), black_box(&mut room)) } else { on_plain(black_box(&f), black_box(&mut room)) });
