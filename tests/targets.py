@@ -82,7 +82,7 @@ def tried(machine, variant, script, answers, folders):
 
 def main():
     script, answers, *names = asked(__doc__, 2)
-    built = said('clang.sh', ['sh', ROOT / 'host/clang.sh', 'targets']).decode().split()
+    built = subprocess.run(['sh', ROOT / 'host/clang.sh', 'targets'], capture_output=True, text=True, check=True).stdout.split()
     if built != list(MACHINES):
         refuse(f'{NAME}: archives are built for {", ".join(built)}, and machines.py has {", ".join(MACHINES)}')
     if strange := set(names) - OTHERS.keys():
