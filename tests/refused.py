@@ -3,7 +3,7 @@
 
 usage: refused.py [CRATE ...]      (all crates where none is named)
 
-It proves nothing itself: `rt must-fail CRATE` tries a crate's wrong programs first, in about the crate's check for each edit, and `rt ci` all of them.
+It proves nothing itself: `rt must-fail CRATE` tries the wrong programs of a crate and of all below it first, and `rt ci` those of every crate.
 Reading them takes a second. Exits 0, 1 where a program was not refused as it must be or was not tried, 2 where it is called wrongly or none was
 tried at all.
 
