@@ -8,8 +8,8 @@ host/example.c, a client and a server on OpenSSL's libcrypto, for the machines t
 usage: targets.py SCRIPT ANSWERS [MACHINE ...]      (a script of calls, plain Rust's answers to it; all machines but this one where none is named)
 
 `make script` makes the first two, build/host/script and build/host/answers, `make lib TARGET=MACHINE` the archives, `make cross` installs qemu and the
-cross compilers, and `make targets` does all of it and calls this. A machine takes TIME. Exits 0, 1 where something is wrong or cannot be compiled or
-run, 2 where it is called wrongly or something is not there.
+cross compilers, and `make targets` does all of it and calls this. A machine takes 40 seconds of a core. Exits 0, 1 where something is wrong or cannot
+be compiled or run, 2 where it is called wrongly or something is not there.
 """
 import concurrent.futures
 import itertools
