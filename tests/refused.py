@@ -15,7 +15,7 @@ its file:, old: and new: lines. rt asks only that a file be refused. This asks o
 - no other program of the file changes the same function;
 - the first error there is a fact that no longer holds, and not a proof that no longer fits the code's shape;
 - the changed contracts and definitions themselves make sense;
-and that docs/PROMISES.md names no program that is not there.
+and that docs/PROMISES.md and docs/CHANGING.md name no program that is not there.
 """
 import glob
 import os
@@ -128,9 +128,10 @@ def main():
             else:
                 faults += judge(crate, path, source, log)
     if not named:
-        cited = set(re.findall(r"`(\w+/\w+)`", open("docs/PROMISES.md", encoding="utf-8").read()))
-        strange = [c for c in sorted(cited - labels) if c.split("/")[0] in edited and not os.path.exists(f"crates/{c}")]
-        faults += [f"docs/PROMISES.md names {c}, which is not there" for c in strange]
+        for page in ("docs/PROMISES.md", "docs/CHANGING.md"):
+            cited = set(re.findall(r"`(\w+/\w+)`", open(page, encoding="utf-8").read()))
+            strange = [c for c in sorted(cited - labels) if c.split("/")[0] in edited and not os.path.exists(f"crates/{c}")]
+            faults += [f"{page} names {c}, which is not there" for c in strange]
     for fault in faults:
         print("refused:", fault)
     print(f"refused: {len(labels)} wrong programs in {files} edits, {len(faults)} faults")
