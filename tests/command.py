@@ -34,7 +34,7 @@ def asked(doc, least=0, most=None, options=()):
 
 def need(made, *names):
     """Refuses where files or programs are not there, and says what makes them."""
-    if missing := [str(name) for name in names if not os.path.exists(name) and shutil.which(name) is None]:
+    if missing := [str(name) for name in dict.fromkeys(names) if not os.path.exists(name) and shutil.which(name) is None]:
         refuse(f"{NAME}: not there: {', '.join(missing)}; {made}")
 
 

@@ -89,7 +89,7 @@ def main():
         refuse(f'{NAME}: no machine {", ".join(strange)}; there are {", ".join(OTHERS)}')
     machines = [OTHERS[name] for name in names or OTHERS]
     need('make script makes them', script, answers)
-    need('make cross installs them', *dict.fromkeys(tool for m in machines for tool in (m.emulator, m.tools + 'gcc')))
+    need('make cross installs them', *(tool for m in machines for tool in (m.emulator, m.tools + 'gcc')))
     need('make lib TARGET="aarch64 .." makes them', *(m.folder / file for m in machines for file in VARIANTS.values()))
     answers = pathlib.Path(answers).read_bytes()
     FOLDER.mkdir(parents=True, exist_ok=True)
