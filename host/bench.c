@@ -641,39 +641,46 @@ static void call_derive(char **t)
 /* ---- lines */
 
 static const struct call {
-    const char *name;
-    size_t tokens; /* the name included */
+    const char *name, *words; /* what comes behind the name, as --help tells it */
     void (*make)(char **t);
     bool shows; /* whether exchange and room follow in its answer */
 } calls[] = {
-    {"rstr", 2, call_rstr, false},
-    {"wstr", 3, call_wstr, false},
-    {"rmpint", 2, call_rmpint, false},
-    {"wmpint", 3, call_wmpint, false},
-    {"open", 3, call_open, false},
-    {"next", 1, call_next, false},
-    {"names", 3, call_names, false},
-    {"wkex", MOST_TOKENS, call_wkex, false},
-    {"choose", 3, call_choose, false},
-    {"sha", 2, call_sha, false},
-    {"feed", 2, call_feed, false},
-    {"finish", 1, call_finish, false},
-    {"shaset", 3, call_shaset, false},
-    {"room", 2, call_room, true},
-    {"poke", 3, call_poke, true},
-    {"set", 3, call_set, true},
-    {"put", 3, call_put, true},
-    {"blank", 1, call_blank, true},
-    {"start", 7, call_start, true},
-    {"ownc", 3, call_ownc, true},
-    {"init", 2, call_init, true},
-    {"reply", 2, call_reply, true},
-    {"secret", 7, call_secret, true},
-    {"sign", 4, call_sign, true},
-    {"verdict", 4, call_verdict, true},
-    {"again", 4, call_again, true},
-    {"derive", 4, call_derive, true},
+    {"rstr", " INPUT", call_rstr, false},
+    {"wstr", " BODY OUT", call_wstr, false},
+    {"rmpint", " INPUT", call_rmpint, false},
+    {"wmpint", " NUMBER OUT", call_wmpint, false},
+    {"open", " PAYLOAD list", call_open, false},
+    {"next", "", call_next, false},
+    {"names", " PAYLOAD list", call_names, false},
+    {"wkex", " COOKIE L1 L2 L3 L4 L5 L6 L7 L8 L9 L10 follows reserved OUT", call_wkex, false},
+    {"choose", " I_C I_S", call_choose, false},
+    {"sha", " kind", call_sha, false},
+    {"feed", " PART", call_feed, false},
+    {"finish", "", call_finish, false},
+    {"shaset", " kind|total|tail number", call_shaset, false},
+    {"room", " ROOM", call_room, true},
+    {"poke", " place BYTES", call_poke, true},
+    {"set", " role|method|stage|fail|l0..l6|k0..k70|h0..h63|slen|count|s0..s63 number", call_set, true},
+    {"put", " k|h|sid BYTES", call_put, true},
+    {"blank", "", call_blank, true},
+    {"start", " role method V_C V_S I_C I_S", call_start, true},
+    {"ownc", " C OUT", call_ownc, true},
+    {"init", " PAYLOAD", call_init, true},
+    {"reply", " PAYLOAD", call_reply, true},
+    {"secret", " F|Gcount X a|f|d K_PQ K_S S", call_secret, true},
+    {"sign", " SIGNATURE OUT K_OUT", call_sign, true},
+    {"verdict", " signature host_key K_OUT", call_verdict, true},
+    {"again", " method I_C I_S", call_again, true},
+    {"derive", " letter length KEY", call_derive, true},
 };
+
+/* How many tokens a call has, its name included. */
+static size_t tokens(const struct call *c)
+{
+    size_t n = 1;
+    for (const char *at = c->words; *at != '\0'; at++) n += *at == ' ';
+    return n;
+}
 
 static const struct call *find(const char *name)
 {
@@ -705,7 +712,7 @@ static void answer(size_t len)
     if (text[len - 1] == '\r') bad("Windows line end");
     size_t n = part(t);
     const struct call *c = find(t[0]);
-    if (n != c->tokens) bad("wrong number of tokens");
+    if (n != tokens(c)) bad("wrong number of tokens");
     c->make(t);
     if (c->shows) put_exchange();
     putchar('\n');
@@ -713,13 +720,20 @@ static void answer(size_t len)
     if (ferror(stdout)) bad("standard output cannot be written");
 }
 
+/* All of it where somebody asked; else its first line, as an error. */
 static int usage(bool asked)
 {
-    fputs("usage: bench < CALLS\n"
-          "Reads calls from standard input, one a line, makes them through the library and prints an answer line for each.\n"
-          "It takes no arguments but --help. A bad line ends it with status 1.\n",
-          asked ? stdout : stderr);
+    fputs("usage: bench < CALLS\n", asked ? stdout : stderr);
     if (!asked) return 2;
+    fputs("Reads calls from standard input, one a line, makes them through the library and prints an answer line for each. Tokens are parted by\n"
+          "one space; those in capitals are bytes in hex, - for none, H*N for the bytes H over and over, N in all; the others are decimal numbers,\n"
+          "but for the words that stand here, and a stage, which is a word. Lines that are empty or begin with # are no calls. The calls:\n", stdout);
+    for (size_t i = 0; i < COUNT(calls); i++) printf("  %s%s\n", calls[i].name, calls[i].words);
+    fputs("From room on they are about one kept exchange and one kept room, which their answers show behind a |.\n"
+          "tests/examples has scripts and their answers, tests/bench_test.py tries the bench, and plain_bench of host/plain answers the same calls.\n"
+          "`make bench` makes it, build/bench; 59,000 calls take a second.\n"
+          "Exits 0 at the end of the calls, 1 at a bad line, 2 where it is called wrongly.\n",
+          stdout);
     return fflush(stdout) == 0 ? 0 : 1;
 }
 
@@ -728,7 +742,7 @@ int main(int argc, char **argv)
     static char buffer[1 << 20];
     ssize_t got;
 
-    if (argc > 1) return usage(argc == 2 && strcmp(argv[1], "--help") == 0);
+    if (argc > 1) return usage(argc == 2 && (strcmp(argv[1], "-h") == 0 || strcmp(argv[1], "--help") == 0));
     setvbuf(stdout, buffer, _IOFBF, sizeof buffer);
     signal(SIGPIPE, SIG_IGN); /* a reader that left is then an output that cannot be written, and is said */
     blank();

@@ -1,9 +1,12 @@
 #!/usr/bin/env python3
-"""The bench as a program: document 01's examples, hashes, keys and the captured exchanges through it, one by one and one behind another in a
-session, each answer computed here, with Python's own SHA-2; published keys; the landings' examples (tests/examples); and what it does with lines
-that are none.
+"""The bench as a program: the specification's worked examples, hashes, keys and the captured exchanges through it, one by one and one behind another
+in a session, each answer computed here, with Python's own SHA-2; published keys; the landings' examples (tests/examples); and what it does with
+lines that are none.
 
 usage: bench_test.py BENCH      (a program, or a command of several words: what runs it, and the program)
+
+`make bench` makes BENCH, build/bench; with the library for size and under the sanitizers it is build/host/bench_small, of `make c-host`. It takes 3
+seconds, and 5 under the sanitizers. Exits 0, 1 where an answer is wrong or BENCH cannot be run, 2 where it is called wrongly or BENCH is not there.
 """
 import functools
 import hashlib
@@ -12,14 +15,16 @@ import sys
 
 sys.dont_write_bytecode = True
 from captured import captures, string
+from command import asked, need, run
 from held import ROOT
+from kexinit_cases import METHODS as METHOD_NAMES
 from kexinit_cases import cases as kexinit_cases
 from published import METHODS, derived, of_records
 
 
-def run(bench, script, *words):
+def said(bench, script, *words):
     p = subprocess.run([*bench, *words], input=script.encode(), capture_output=True, timeout=60)
-    return p.returncode, p.stdout.decode().splitlines(), p.stderr.decode().splitlines()
+    return p.returncode, *(out.decode(errors='replace').splitlines() for out in (p.stdout, p.stderr))
 
 
 @functools.cache
@@ -54,7 +59,7 @@ def kept(k=b'', h=b'', identifier=b'', count=0, id_len=None):
             f'sid={len(identifier) if id_len is None else id_len}:{digest(identifier.ljust(64, bytes(1)))} n={count}')
 
 
-# ---- document 01's worked and run-only examples: line, and what its answer begins with
+# ---- the specification's worked examples: line, and what its answer begins with
 
 def server(method, c, x, s=None):
     """Lines that bring a server to its secret."""
@@ -68,7 +73,7 @@ def server(method, c, x, s=None):
 
 
 def secrets():
-    """P1 to P7: X of 32 bytes in method 4, and K as the sign step writes it; then the longest X, of method 6."""
+    """X of 32 bytes in method 4 with and without leading zeros and a high bit, and K as the sign step writes it; then the longest X, of method 6."""
     p256, p521 = b'\4' + bytes(64), b'\4' + bytes(132)
     short = [
         (bytes(31) + b'\1', '0000000101'),
@@ -91,7 +96,7 @@ def secrets():
         hashed = b''.join(map(string, (b'a', b'b', b'\x14', b'\x14', b'k', point, point))) + k
         yield lines, ['0', '0', '0 5:', f'0 {len(hashed)} {sha(32 if method == 4 else 64, hashed)} |',
                       f'0 {len(reply)} {len(k)} {out(reply + bytes(5774 - len(reply)))} {out(k + bytes(71 - len(k)))}']
-    # P3: an all-zero X where the check is on
+    # an all-zero X where the check is on
     yield server(1, bytes(32), bytes(32)), ['0', '0', '0', f'16 0 {ZEROS} | ex 2.1.failed.16.0,0,0,0,0,0,0']
     c9, s9 = bytes(1216), bytes(1120)
     lines = server(9, c9, bytes(32), s=s9)
@@ -185,7 +190,7 @@ def hashes():
         yield 'finish', f'4 {ZEROS}'
 
 
-# RFC 4251, section 5, longer forms of its numbers, and P8 and P9: two's complement bytes, and the body that is written
+# RFC 4251, section 5, and longer forms of its numbers: two's complement bytes, and the body that is written
 MPINTS = [
     ('-', ''), ('09a378f9b2e332a7', '09a378f9b2e332a7'), ('80', '80'), ('0080', '0080'), ('edcc', 'edcc'), ('ff21524111', 'ff21524111'),
     ('000000', ''), ('00000080', '0080'), ('ffffffedcc', 'edcc'), ('ffffff', 'ff'), ('ff80', '80'), ('ffff7f', 'ff7f'), ('ff7f', 'ff7f'),
@@ -205,7 +210,7 @@ def mpints():
 
 def codecs():
     yield from mpints()
-    # mpint bodies that could be shorter, P10 among them, and some that could not; 12 before 22
+    # mpint bodies that could be shorter, and some that could not; 12 before 22
     for body in ('0001', '007f', 'ffff', 'ff80', '00'):
         yield f'rmpint {len(body) // 2:08x}{body}01', '22 0 0:- 0:-'
     for body, sign in (('0080', 1), ('ff7f', -1), ('ff', -1), ('7f', 1), ('80', -1)):
@@ -219,7 +224,7 @@ def codecs():
     for s in ('-', '000000', '000000036162', '0000000261', 'fffffffd6162', *lying):
         yield f'rstr {s}', '12 0:- 0:-'
     # outputs: just long enough, longer, a byte too short
-    for body, size in ((b'ab', 6), (b'ab', 8), (b'ab', 10), (b'', 4), (b'abcd', 8)):                   # P11 among them
+    for body, size in ((b'ab', 6), (b'ab', 8), (b'ab', 10), (b'', 4), (b'abcd', 8)):
         yield f'wstr {h(body)} 55*{size}', f'0 {4 + len(body)} {out((string(body)).ljust(size, bytes([0x55])))}'
     for body, size in ((b'ab', 5), (b'', 3)):
         yield f'wstr {h(body)} 55*{size}', f'5 0 {out(bytes([0x55]) * size)}'
@@ -250,12 +255,16 @@ def exchanges():
     yield [room, 'start 1 1 61*254 62 14 14'], ['0', '4 | ex 0.0.failed.4.']
     yield [room, 'start 1 1 61 62*254 14 14'], ['0', '4 | ex 0.0.failed.4.']
     yield [room, 'start 3 1 61 62 14 14'], ['0', '2 | ex 0.0.failed.2.']
+    # every method of the table that the tests go by, and no other
+    numbers = range(256)
+    yield [room, *(f'start 1 {n} 61 62 14 14' for n in numbers)], [
+        '0', *(f'0 | ex 1.{n}.started.0.1,1,1,1,0,0,0' if n in METHODS else '2 | ex 0.0.failed.2.' for n in numbers)]
     # C of 31 and 33 in method 1
     for n in (31, 33):
         payload = h(bytes([30]) + string(bytes(n)))
         yield [room, 'start 2 1 61 62 14 14', f'init {payload}', f'init {payload}'], [
             '0', '0', f'14 0:- | ex 2.1.failed.14.0,0,0,0,0,0,0{kept()} room={digest(bytes(14156))}', '1 0:-']
-    # P12: REPLY cut in its third length
+    # REPLY cut in its third length
     cut = h(bytes([31]) + string(b'k') + string(bytes(32)) + bytes(3))
     yield [room, 'start 1 1 61 62 14 14', f'ownc {"00" * 32} 00*1670', f'reply {cut}'], ['0', '0', '0 37', '12 0:- 0:- 0:-']
     # an exchange that was written to: a length that no exchange has, also one that its bytes cannot hold, is shown, refused by every step
@@ -726,7 +735,7 @@ def sessions():
 
 # ---- the landings' examples, as the bench answered when each was the last; what the state has gained since
 
-LATER = {'102': ['h', 'sid', 'n'], '105': ['sid', 'n'], '106': []}
+LATER = {'sha2': ['h', 'sid', 'n'], 'keys': ['sid', 'n'], 'rekeying': []}
 
 
 def also(line):
@@ -739,7 +748,7 @@ def examples():
     for name, later in LATER.items():
         script, answers = ((ROOT / f'tests/examples/{name}.{end}').read_text().splitlines() for end in ('script', 'answers'))
         lines = [line for line in script if not line.startswith('#')]
-        if name == '105':
+        if name == 'keys':
             at = [i for i, line in enumerate(lines) if line.startswith(('set h', 'put h '))]
             for i in reversed(at):
                 lines.insert(i + 1, also(lines[i]))
@@ -765,7 +774,8 @@ BAD = [
 
 
 def main():
-    bench = sys.argv[1:]
+    bench = asked(__doc__, 1)
+    need('make bench makes build/bench', bench[0], bench[-1])
     failed = []
 
     def held(what, have, want):
@@ -776,20 +786,25 @@ def main():
     steps = [(lines, wants, str.startswith) for lines, wants in [*secrets(), *hybrids(), *exchanges(), *captured(), *records(), *sessions()]]
     whole = [(lines, wants, str.__eq__) for lines, wants in lists()]
     for lines, wants, holds in steps + whole + list(examples()):
-        status, answers, errors = run(bench, '\n'.join(lines) + '\n')
+        status, answers, errors = said(bench, '\n'.join(lines) + '\n')
         held(lines[0], (status, len(answers), errors), (0, len(wants), []))
         for line, answer, want in zip(lines, answers, wants):
             count += 1
             if not holds(answer, want):
                 failed.append(f'{line[:80]}: {answer[:120]}, not {want[:120]}')
     for line in BAD:
-        status, answers, errors = run(bench, f'# a comment\n\nrstr 00000000\n{line}\nrstr 00000000\n')
+        status, answers, errors = said(bench, f'# a comment\n\nrstr 00000000\n{line}\nrstr 00000000\n')
         held(repr(line), (status, answers, len(errors)), (1, ['0 4:- 4:-'], 1))
         if not ''.join(errors).startswith('bench: line 4: '):
             failed.append(f'{line!r}: the error is {errors}')
-    held('--help', run(bench, '', '--help')[0::2], (0, []))
-    held('an argument', run(bench, '', 'x')[0:2], (2, []))
-    held('no newline at the end', run(bench, 'rstr 00000000')[1], ['0 4:- 4:-'])
+    held('names of methods', len(METHOD_NAMES), len(METHODS))
+    usage = 'usage: bench < CALLS'
+    for word in ('--help', '-h'):
+        status, answers, errors = said(bench, '', word)
+        held(word, (status, answers[:1], errors), (0, [usage], []))
+    for words in (('x',), ('',), ('--help', 'x')):
+        held(f'the words {words}', said(bench, '', *words), (2, [], [usage]))
+    held('no newline at the end', said(bench, 'rstr 00000000')[1], ['0 4:- 4:-'])
     for line in failed:
         print('bench:', line, file=sys.stderr)
     print(f'bench: {count} answers and {len(BAD)} bad lines as they must be' if not failed else f'bench: {len(failed)} wrong')
@@ -797,4 +812,4 @@ def main():
 
 
 if __name__ == '__main__':
-    sys.exit(main())
+    run(main)

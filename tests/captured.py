@@ -1,4 +1,7 @@
 """The captured exchanges of tests/captures, as the scripts beside this one read them."""
+if __name__ == "__main__":
+    raise SystemExit("captured.py: a module that the tests beside it import; by itself it runs nothing")
+
 from held import ROOT
 
 FIELDS = ("V_C", "V_S", "I_C", "I_S", "K_S", "C", "S", "X", "K_PQ", "K", "H", "signature", "INIT", "REPLY")

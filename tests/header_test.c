@@ -2,8 +2,15 @@
    exchange; header_steps.c has the exchanges, header_32.c the sizes. */
 #define _DEFAULT_SOURCE
 #include "header_test.h"
+#include "help.h"
 #include <stdio.h>
 #include <sys/mman.h>
+
+static const char help[] =
+    "usage: header_c      (or header_cc, header_san, header_small: in C++, under the sanitizers, with the library for size)\n"
+    "Every entry of include/castulfrisa.h is called, and what the header says of it is tried, exchanges in all methods and both roles among it.\n"
+    "`make c-host` makes it, in build/host; tests/targets.py makes it for other machines. It takes half a second.\n"
+    "Exits 0 and says ok, 1 where the library does otherwise, with a line for each of the first 20 differences, 2 where it is called wrongly.\n";
 
 static int failed;
 uint64_t method;
@@ -608,8 +615,10 @@ static void sentences(void)
     is(strlen(other) > 0 && strcmp(castulfrisa_text(WIDE), other) == 0, "the sentence of a wide number");
 }
 
-int main(void)
+int main(int argc, char **argv)
 {
+    int status = helped(argc, argv, help);
+    if (status >= 0) return status;
     is(castulfrisa_version() == CASTULFRISA_VERSION, "header and archive are of one day");
     strings();
     mpints();

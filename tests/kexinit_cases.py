@@ -1,4 +1,7 @@
-"""KEXINIT and the choice: calls of the bench, and what it must answer, by an account of document 01 and RFC 4253, section 7.1, of its own."""
+"""KEXINIT and the choice: calls of the bench, and what it must answer, by an account of the specification and of RFC 4253, section 7.1, of its own."""
+if __name__ == "__main__":
+    raise SystemExit("kexinit_cases.py: a module that the tests beside it import; by itself it runs nothing")
+
 import re
 
 METHODS = [
@@ -13,7 +16,7 @@ def hexed(b):
     return b.hex() or "-"
 
 
-# ---- the documents
+# ---- the specification
 
 
 def good_name(name):

@@ -1,8 +1,15 @@
 #!/bin/sh
 # Leaves Debian's static libcrypto of another architecture, and its headers, in FOLDER. Nothing is installed: the package is looked up in lists of
 # its own, and unpacked. Where it cannot be had, it says so and leaves nothing.
+#
 # usage: libcrypto.sh ARCHITECTURE FOLDER
+#
+# `make targets` calls it, for arm64 and armhf. It needs apt-get and Debian's archive, nothing that is built, and takes some seconds. Exits 0, also where
+# FOLDER has it already, 1 where it cannot be had, 2 where it is called wrongly.
 set -eu
+help() { sed -n '/^#!/d; /^#/!q; s/^# \{0,1\}//p' "$0"; }
+case ${1-} in -h | --help) help; exit ;; esac
+[ $# -eq 2 ] || { help | grep '^usage: ' >&2; exit 2; }
 architecture=$1 folder=$2
 [ ! -d "$folder/usr" ] || exit 0
 mkdir -p "$folder"
@@ -22,5 +29,7 @@ if (cd "$work" && get download libssl-dev) && dpkg-deb -x "$work"/libssl-dev_*.d
     rm -rf "$work"
 else
     echo "libcrypto: apt-get has none for $architecture: $(tail -n 1 "$work/log")" >&2
+    rm -rf "$work"
+    rmdir "$folder" 2>/dev/null || true
     exit 1
 fi

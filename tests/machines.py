@@ -6,6 +6,9 @@ There is no Linux for a cortex-m3, and no board here: its archive goes into a pr
 the same rules where no floating point number crosses. The linker goes by the objects' attributes and would refuse: it gets a copy without.
 So what runs is the archive's code, byte for byte, on a processor that it was not compiled for.
 """
+if __name__ == '__main__':
+    raise SystemExit('machines.py: a module that the tests beside it import; by itself it runs nothing')
+
 import collections
 import pathlib
 import re

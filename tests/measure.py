@@ -3,6 +3,10 @@
 bytes go; a session's memory; and time, and instructions where valgrind is there to count them, against plain Rust.
 
 usage: measure.py TIMING SMALL      (the program `timing` of host/differ, with the library for speed and with the one for size)
+
+`make measure` makes both and calls it: measure.py build/cargo/release/timing build/cargo-small/release/timing. Archives of other machines count where
+`make targets` left them. It takes half a minute, most of it valgrind's. Exits 0, 1 where something cannot be compiled or run, 2 where it is called
+wrongly or a program is not there.
 """
 import re
 import shutil
@@ -11,6 +15,7 @@ import sys
 import tempfile
 
 sys.dont_write_bytecode = True
+from command import asked, need, run
 from machines import MACHINES, ROLES, VARIANTS, Carried, table
 
 LARGEST = 12
@@ -48,7 +53,8 @@ def instructions(timing, side, what):
 
 
 def main():
-    timings = dict(zip(VARIANTS, sys.argv[1:], strict=True))
+    timings = dict(zip(VARIANTS, asked(__doc__, 2, 2)))
+    need('make measure makes it', *timings.values(), *(MACHINES['x86-64'].folder / file for file in VARIANTS.values()))
     machines = [m for m in MACHINES.values() if m.built()]
     measured = {(m.name, v): {role: Carried(m, v, role) for role in ROLES} for m in machines for v in VARIANTS}
     print('\n'.join(table(measured)))
@@ -74,4 +80,4 @@ def main():
 
 
 if __name__ == '__main__':
-    sys.exit(main())
+    run(main)

@@ -1,4 +1,7 @@
 """The published keys of tests/vectors, and RFC 4253, section 7.2, as the scripts beside this one have them."""
+if __name__ == '__main__':
+    raise SystemExit('published.py: a module that the tests beside it import; by itself it runs nothing')
+
 import collections
 import hashlib
 import re

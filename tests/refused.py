@@ -1,7 +1,11 @@
 #!/usr/bin/env python3
 """Whether each wrong program of crates/*/must-fail was refused where it is wrong, by what `rt ci` or `rt must-fail` left in target/.
 
-usage: refused.py [CRATE ...]      (at the repository's top)
+usage: refused.py [CRATE ...]      (all crates where none is named)
+
+It proves nothing itself: `rt must-fail CRATE` tries the wrong programs of a crate and of all below it first, and `rt ci` those of every crate.
+Reading them takes a second. Exits 0, 1 where a program was not refused as it must be or was not tried, 2 where it is called wrongly or none was
+tried at all.
 
 An .edit file holds one wrong program, or several of one crate that are tried at once, since each trial proves the whole crate again. A program
 begins with its lines '# rules out: FUNCTION: what', may name itself by a line '# label: NAME' (else the file's name is its own), and goes on with
@@ -11,12 +15,16 @@ its file:, old: and new: lines. rt asks only that a file be refused. This asks o
 - no other program of the file changes the same function;
 - the first error there is a fact that no longer holds, and not a proof that no longer fits the code's shape;
 - the changed contracts and definitions themselves make sense;
-and that docs/PROMISES.md names no program that is not there.
+and that docs/PROMISES.md and docs/CHANGING.md name no program that is not there.
 """
 import glob
 import os
 import re
 import sys
+
+sys.dont_write_bytecode = True
+from command import NAME, asked, refuse, run
+from held import ROOT
 
 # what the checker says of a proof that names places the code no longer has
 SHAPE = re.compile(r"has no `(Need|InvT|MeasureT)|has no field|that can be named from here|is not in scope|Scope:")
@@ -94,10 +102,15 @@ def judge(crate, path, source, log):
 
 
 def main():
-    if "-h" in sys.argv or "--help" in sys.argv:
-        print(__doc__)
-        return 0
-    crates = sys.argv[1:] or sorted(os.listdir("crates"))
+    named = asked(__doc__)
+    os.chdir(ROOT)
+    if strange := set(named) - set(os.listdir("crates")):
+        refuse(f"{NAME}: no crate {', '.join(sorted(strange))}")
+    crates = named or sorted(os.listdir("crates"))
+    edited = {crate for crate in crates if glob.glob(f"crates/{crate}/must-fail/*.edit")}
+    if edited and not any(os.path.isdir(f"target/must-fail/{crate}") for crate in edited):
+        which = " ".join(named)
+        refuse(f"{NAME}: target/must-fail has nothing of {which or 'any crate'}; run rt ci, or rt must-fail {which or 'CRATE'}")
     faults, files, labels = [], 0, set()
     for crate in crates:
         source = Source(crate)
@@ -114,11 +127,11 @@ def main():
                 faults.append(f"{path}: not tried (run rt ci, or rt must-fail {crate})")
             else:
                 faults += judge(crate, path, source, log)
-    if not sys.argv[1:]:
-        edited = {c for c in crates if glob.glob(f"crates/{c}/must-fail/*.edit")}
-        cited = set(re.findall(r"`(\w+/\w+)`", open("docs/PROMISES.md", encoding="utf-8").read()))
-        strange = [c for c in sorted(cited - labels) if c.split("/")[0] in edited and not os.path.exists(f"crates/{c}")]
-        faults += [f"docs/PROMISES.md names {c}, which is not there" for c in strange]
+    if not named:
+        for page in ("docs/PROMISES.md", "docs/CHANGING.md"):
+            cited = set(re.findall(r"`(\w+/\w+)`", open(page, encoding="utf-8").read()))
+            strange = [c for c in sorted(cited - labels) if c.split("/")[0] in edited and not os.path.exists(f"crates/{c}")]
+            faults += [f"{page} names {c}, which is not there" for c in strange]
     for fault in faults:
         print("refused:", fault)
     print(f"refused: {len(labels)} wrong programs in {files} edits, {len(faults)} faults")
@@ -126,4 +139,4 @@ def main():
 
 
 if __name__ == "__main__":
-    sys.exit(main())
+    run(main)

@@ -2,8 +2,15 @@
    castulfrisa_wipe_stack leaves nothing of them. The stack is painted, a call is made, and what stands below is looked at without another call in between. Not for the
    sanitizers: they lay out the stack in their own way. */
 #include "castulfrisa.h"
+#include "help.h"
 #include <stdio.h>
 #include <string.h>
+
+static const char help[] =
+    "usage: stack_2      (or stack_0, stack_lazy: not optimized, memcpy and memset looked up late; stack_small_2 ..: the library for size)\n"
+    "What the calls leave of secrets and keys on the stack, how deep each goes, and that castulfrisa_wipe_stack leaves nothing of them.\n"
+    "`make c-host` makes it, in build/host; tests/targets.py makes it for other machines. It takes a second.\n"
+    "Exits 0 with a line for each call, 1 where something is left, or where what was planted is not seen, 2 where it is called wrongly.\n";
 
 #define DEPTH 32768 /* painted: far more than any call takes */
 #define PAINT 0xd5
@@ -259,16 +266,17 @@ static void started(uint64_t role)
     }
 }
 
-int main(void)
+int main(int argc, char **argv)
 {
     uint32_t r = 20261115;
     size_t i, deepest = 0;
+    int status = helped(argc, argv, help);
+    if (status >= 0) return status;
 
     memset(value, 4, sizeof value);
     for (i = 0; i < sizeof x; i++) x[i] = (uint8_t)((r = r * 1664525 + 1013904223) >> 24);
     for (i = 0; i < sizeof k_pq; i++) k_pq[i] = (uint8_t)((r = r * 1664525 + 1013904223) >> 24);
-    for (method = 1; method <= 9; method++) {
-        if (castulfrisa_method_sizes(method, &z) != 0) return 1;
+    for (method = 1; castulfrisa_method_sizes(method, &z) == 0; method++) {
         hashed();
         started(CASTULFRISA_CLIENT);
         secret(SECRET_CLIENT);

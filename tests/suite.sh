@@ -1,11 +1,23 @@
 #!/bin/sh
 # Leaves packages of another suite of Debian, with all that they depend on, in FOLDER. Nothing is installed: they are looked up in lists of their own, in
 # the archive that this machine gets its packages from, and unpacked. Where they cannot be had, it says so and leaves nothing.
+#
 # usage: suite.sh SUITE FOLDER PACKAGE...
+#
+# `make hybrids` calls it, for trixie and forky. It needs apt-get and Debian's archive, nothing that is built, and takes ten seconds and more. Other
+# packages that it left in FOLDER are removed. Exits 0, 1 where they cannot be had, 2 where it is called wrongly or something else stands in FOLDER.
 set -eu
+help() { sed -n '/^#!/d; /^#/!q; s/^# \{0,1\}//p' "$0"; }
+case ${1-} in -h | --help) help; exit ;; esac
+[ $# -ge 3 ] || { help | grep '^usage: ' >&2; exit 2; }
 suite=$1 folder=$2
 shift 2
 [ ! -f "$folder/packages" ] || [ "$(cat "$folder/packages")" != "$*" ] || exit 0
+# what it left, whole or not, is its to remove, and nothing else
+if [ -n "$(ls -A "$folder" 2>/dev/null)" ] && [ ! -f "$folder/packages" ] && [ ! -d "$folder/apt" ]; then
+    echo "suite: $folder has other things in it" >&2
+    exit 2
+fi
 rm -rf "$folder"
 mkdir -p "$folder"
 folder=$(cd "$folder" && pwd -P)

@@ -1,11 +1,15 @@
 #!/usr/bin/env python3
 """The archives for other machines, each run under qemu and measured (`make targets`; machines.py says how a program for each is made).
 
-Every archive: the header's test, the stack's, the bench on a script with every answer held to plain Rust's, document 01's examples, published
+Every archive: the header's test, the stack's, the bench on a script with every answer held to plain Rust's, the worked examples, published
 keys and the captured exchanges through the bench, a client and a server at their largest; and it calls nothing but C's memcpy, memmove and memset.
 host/example.c, a client and a server on OpenSSL's libcrypto, for the machines that Debian has a libcrypto for: not riscv64 in Debian 12.
 
-usage: targets.py SCRIPT ANSWERS
+usage: targets.py SCRIPT ANSWERS [MACHINE ...]      (a script of calls, plain Rust's answers to it; all machines but this one where none is named)
+
+`make script` makes the first two, build/host/script and build/host/answers, `make lib TARGET=MACHINE` the archives, `make cross` installs qemu and the
+cross compilers, and `make targets` does all of it and calls this. A machine takes 40 seconds of a core. Exits 0, 1 where something is wrong or cannot
+be compiled or run, 2 where it is called wrongly or something is not there.
 """
 import concurrent.futures
 import itertools
@@ -15,10 +19,11 @@ import subprocess
 import sys
 
 sys.dont_write_bytecode = True
+from command import NAME, asked, need, refuse, run
 from held import ROOT
 from machines import MACHINES, ROLES, VARIANTS, Carried, table
 
-OTHERS = [m for m in MACHINES.values() if m.emulator]
+OTHERS = {m.name: m for m in MACHINES.values() if m.emulator}
 HEADER = ['tests/header_test.c', 'tests/header_steps.c', 'tests/header_32.c']
 CALLED = {'memcpy', 'memmove', 'memset'}
 LIBCRYPTO = {'aarch64': ('arm64', 'aarch64-linux-gnu'), 'armv7': ('armhf', 'arm-linux-gnueabihf'), 'cortex-m3': ('armhf', 'arm-linux-gnueabihf')}
@@ -66,7 +71,7 @@ def tried(machine, variant, script, answers, folders):
         first = next(i for i, (a, b) in enumerate(itertools.zip_longest(ours.split(b'\n'), answers.split(b'\n')), 1) if a != b)
         raise Wrong(f'the bench has another answer than plain Rust, number {first}')
     said('the bench test', [sys.executable, ROOT / 'tests/bench_test.py', *bench])
-    ran = f'header, stack, {len(answers.splitlines()):,} answers as plain Rust gives them, document 01, published keys and the captures'
+    ran = f'header, stack, {len(answers.splitlines()):,} answers as plain Rust gives them, the worked examples, published keys and the captures'
     architecture, triple = LIBCRYPTO.get(machine.name, (None, None))
     if root := folders.get(architecture):
         words = [f'-I{root}/usr/include', f'-I{root}/usr/include/{triple}', f'-L{root}/usr/lib/{triple}', '-lcrypto']
@@ -76,14 +81,23 @@ def tried(machine, variant, script, answers, folders):
 
 
 def main():
-    script, answers = sys.argv[1:]
+    script, answers, *names = asked(__doc__, 2)
+    built = subprocess.run(['sh', ROOT / 'host/clang.sh', 'targets'], capture_output=True, text=True, check=True).stdout.split()
+    if built != list(MACHINES):
+        refuse(f'{NAME}: archives are built for {", ".join(built)}, and machines.py has {", ".join(MACHINES)}')
+    if strange := set(names) - OTHERS.keys():
+        refuse(f'{NAME}: no machine {", ".join(strange)}; there are {", ".join(OTHERS)}')
+    machines = [OTHERS[name] for name in names or OTHERS]
+    need('make script makes them', script, answers)
+    need('make cross installs them', *(tool for m in machines for tool in (m.emulator, m.tools + 'gcc')))
+    need('make lib TARGET="aarch64 .." makes them', *(m.folder / file for m in machines for file in VARIANTS.values()))
     answers = pathlib.Path(answers).read_bytes()
     FOLDER.mkdir(parents=True, exist_ok=True)
     measured, failed = {}, False
     with concurrent.futures.ThreadPoolExecutor(os.cpu_count()) as pool:
-        architectures = sorted({architecture for architecture, _ in LIBCRYPTO.values()})
+        architectures = sorted({LIBCRYPTO[m.name][0] for m in machines if m.name in LIBCRYPTO})
         folders = dict(zip(architectures, pool.map(libcrypto, architectures)))
-        jobs = {(m.name, v): pool.submit(tried, m, v, script, answers, folders) for m in OTHERS for v in VARIANTS}
+        jobs = {(m.name, v): pool.submit(tried, m, v, script, answers, folders) for m in machines for v in VARIANTS}
         for (machine, variant), job in jobs.items():
             try:
                 ran, measured[machine, variant] = job.result()
@@ -97,4 +111,4 @@ def main():
 
 
 if __name__ == '__main__':
-    sys.exit(main())
+    run(main)

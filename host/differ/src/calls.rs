@@ -5,6 +5,9 @@ use crate::random::Random;
 use crate::stored::{exchange_of, EXCHANGE};
 use plain::{Exchange, Session, Stage, COMPLETED_MOST, H, KEY_MOST, K_RECORD};
 
+/// How many methods there are; the wrapper's list is held to the header.
+pub const METHODS: usize = castulfrisa::Method::ALL.len();
+
 /// Bytes that repeat: what an output or a room holds before it is lent.
 #[derive(Clone, Debug)]
 pub struct Filled {
@@ -330,7 +333,7 @@ fn secret(r: &mut Random, role: u8, method: u8) -> Call {
 
 /// A beginning again: mostly one that may be, in another method or in the same.
 fn again(r: &mut Random, running: u8) -> Call {
-    let mut method = if r.once_in(4) { running.into() } else { r.range(1, 9) as u64 };
+    let mut method = if r.once_in(4) { running.into() } else { r.range(1, METHODS) as u64 };
     match r.below(24) {
         0 => method = r.of(&[0, 10, 11, 255, 257]),
         1 => method = widened(r, method),
@@ -435,7 +438,7 @@ pub fn complete(r: &mut Random, role: u8, method: u8) -> Exchange {
 
 /// One, often with one thing that does not fit.
 fn record(r: &mut Random) -> Call {
-    let (role, method) = (r.range(1, 2) as u8, r.range(1, 9) as u8);
+    let (role, method) = (r.range(1, 2) as u8, r.range(1, METHODS) as u8);
     let mut e = complete(r, role, method);
     match r.below(15) {
         0 => e.role = r.of(&[0, 3, 255]),
@@ -481,7 +484,7 @@ fn step(r: &mut Random, which: usize, role: u8, method: u8) -> Call {
 }
 
 pub fn start(r: &mut Random) -> Call {
-    let (mut role, mut method) = (r.range(1, 2) as u64, r.range(1, 9) as u64);
+    let (mut role, mut method) = (r.range(1, 2) as u64, r.range(1, METHODS) as u64);
     match r.below(80) {
         0 => role = r.of(&[0, 3, 255]),
         1 => role = widened(r, role),
@@ -574,7 +577,7 @@ pub fn next(r: &mut Random, exchange: &[u8], room_len: usize, kept: usize, caref
         // mostly out of it again: what no exchange has is refused until a start, and another length is there too
         None if exchange.len() != EXCHANGE && r.coin() => return Call::Lend(r.bytes(EXCHANGE)),
         None if r.coin() => return start(r),
-        None => Exchange { role: r.range(1, 2) as u8, method: r.range(1, 9) as u8, ..Exchange::default() },
+        None => Exchange { role: r.range(1, 2) as u8, method: r.range(1, METHODS) as u8, ..Exchange::default() },
     };
     match r.below(if careful { 512 } else { 64 }) {
         0 => return forge(r),

@@ -1,12 +1,12 @@
 //! Rounds of strings, mpints, methods, KEXINIT and choice on both, every lent buffer and every lent number at a fence.
-use crate::calls::{widened, yes_or_no};
+use crate::calls::{widened, yes_or_no, METHODS};
 use crate::fence::{self, Fence};
 use crate::random::Random;
 use crate::tally::Tally;
 use castulfrisa::raw;
 use std::fmt::Debug;
 
-const METHODS: [&[u8]; 9] = [
+const METHOD_NAMES: [&[u8]; METHODS] = [
     b"curve25519-sha256",
     b"curve25519-sha256@libssh.org",
     b"curve448-sha512",
@@ -45,7 +45,7 @@ fn same<T: PartialEq<U> + Debug, U: Debug>(what: impl Fn() -> String, core: T, p
     if core == plain {
         return Ok(());
     }
-    Err(format!("{}\nthe core gives {:?}\nthe document  {:?}", what(), core, plain))
+    Err(format!("{}\nthe core gives {:?}\nplain Rust    {:?}", what(), core, plain))
 }
 
 /// An input that the core must leave.
@@ -183,7 +183,7 @@ fn name(r: &mut Random) -> Vec<u8> {
             let n = r.range(1, 20);
             (0..n).map(|_| r.range(33, 126) as u8).filter(|b| *b != b',').chain([b'x']).collect()
         }
-        10..=24 => r.of(&METHODS).to_vec(),
+        10..=24 => r.of(&METHOD_NAMES).to_vec(),
         _ => r.of(&OTHERS).to_vec(),
     }
 }
@@ -204,7 +204,7 @@ fn good_names(r: &mut Random, pool: &[&[u8]], many: usize) -> Vec<u8> {
 pub fn ten(r: &mut Random) -> Vec<Vec<u8>> {
     let good = !r.once_in(6);
     let mut lists: Vec<Vec<u8>> = (0..10).map(|i| match (good, i) {
-        (true, 0) => good_names(r, &METHODS, 6),
+        (true, 0) => good_names(r, &METHOD_NAMES, 6),
         (true, 1) => good_names(r, &OTHERS[..4], 4),
         (true, _) => if r.coin() { good_names(r, &OTHERS, 2) } else { Vec::new() },
         _ => names(r, 4),
@@ -325,7 +325,7 @@ fn bad_list(lists: &[u8], ends: &[u64; 10]) -> u64 {
     0
 }
 
-/// Document 01's writer behind the table of ends: 4 also for a list that there is not, for bytes behind the last one, and for a
+/// The specification's writer behind the table of ends: 4 also for a list that there is not, for bytes behind the last one, and for a
 /// reserved number above 32 bits.
 fn kexinit_of(out: &mut [u8], cookie: &[u8], lists: &[u8], ends: &[u64; 10], follows: u64, reserved: u64) -> (u64, raw::Proposed) {
     let bad_list = bad_list(lists, ends);
@@ -396,7 +396,7 @@ fn row(method: u64) -> Option<&'static plain::Method> {
 }
 
 fn methods(r: &mut Random, f: &mut Lent, t: &mut Tally) -> Result<(), String> {
-    let mut name = if r.coin() { r.of(&METHODS).to_vec() } else { name(r) };
+    let mut name = if r.coin() { r.of(&METHOD_NAMES).to_vec() } else { name(r) };
     if r.once_in(4) && !name.is_empty() {
         let i = r.below(name.len());
         match r.below(3) {

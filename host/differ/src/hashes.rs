@@ -206,11 +206,11 @@ fn both(call: &Call, core: &mut Lent, model: &mut Side, tally: &mut Tally, tried
     let want = model.call(call);
     tried.note(call, ahead, number);
     let what = if number != want {
-        format!("the core gives {}, the document {}", number, want)
+        format!("the core gives {}, plain Rust {}", number, want)
     } else if core.hash.bytes() != model.hash {
-        format!("the state differs:\nthe core      {}\nthe document  {}", hex(core.hash.bytes()), hex(&model.hash))
+        format!("the state differs:\nthe core      {}\nplain Rust    {}", hex(core.hash.bytes()), hex(&model.hash))
     } else if matches!(call, Call::Finish) && core.digest.bytes() != model.digest {
-        format!("the digest differs:\nthe core      {}\nthe document  {}", hex(core.digest.bytes()), hex(&model.digest))
+        format!("the digest differs:\nthe core      {}\nplain Rust    {}", hex(core.digest.bytes()), hex(&model.digest))
     } else if matches!(call, Call::Feed(part) if core.part.bytes() != part) {
         "the part was written to".into()
     } else {

@@ -1,7 +1,7 @@
 //! Keys on both, one thing at a time: every letter and every length, in outputs that are too short, just long enough and longer, in every
 //! method and role; complete exchanges of which one byte, one length, K's length or the session is another; and identifiers of every hash's
 //! length. After each call its number, every byte of the output, and the exchange, which stays.
-use crate::calls::{complete, k_lens, COUNTS, DIGESTS, ID_LENS};
+use crate::calls::{complete, k_lens, COUNTS, DIGESTS, ID_LENS, METHODS};
 use crate::codecs::hex;
 use crate::fence::Fence;
 use crate::model::derived;
@@ -37,9 +37,9 @@ impl Lent {
         let mut key = filled;
         let want = derived(exchange, letter, length, &mut key);
         let what = if number != want {
-            format!("the core gives {}, the document {}", number, want)
+            format!("the core gives {}, plain Rust {}", number, want)
         } else if self.key.bytes() != key {
-            format!("the output differs:\nthe core      {}\nthe document  {}", hex(self.key.bytes()), hex(&key))
+            format!("the output differs:\nthe core      {}\nplain Rust    {}", hex(self.key.bytes()), hex(&key))
         } else if self.exchange.bytes() != exchange {
             "the exchange was written to".into()
         } else {
@@ -121,7 +121,7 @@ fn changed(core: &mut Lent, e: &Exchange, m: &Method, tally: &mut Tally) -> Resu
 
 pub fn edges(core: &mut Lent, tally: &mut Tally) -> Result<(), String> {
     let mut r = Random::new(105, 1);
-    for method in 1..=9 {
+    for method in 1..=METHODS as u8 {
         let m = plain::method(method).expect("a method");
         for role in [1, 2] {
             let e = complete(&mut r, role, method);

@@ -1,6 +1,7 @@
-//! The compiled core and the plain implementation of document 01 side by side: random calls, and what both answer and leave.
+//! The compiled core and the specification in plain Rust side by side: random calls, and what both answer and leave.
 pub mod calls;
 pub mod codecs;
+pub mod command;
 pub mod fence;
 pub mod hashes;
 pub mod keys;

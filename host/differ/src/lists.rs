@@ -567,7 +567,7 @@ pub fn both(core: &mut Lent, model: &mut Side, call: &Call, word: u64, tally: &m
         tally.note(name, have.number);
     }
     let what = told
-        .or_else(|| (have != want).then(|| format!("the core gives {:?}\nthe document  {:?}", have, want)))
+        .or_else(|| (have != want).then(|| format!("the core gives {:?}\nplain Rust    {:?}", have, want)))
         .or_else(|| differs("exchange", core.exchange.bytes(), &model.exchange))
         .or_else(|| differs("room", core.room.bytes(), &model.room))
         .or_else(|| differs("output", core.out.bytes(), &model.out))

@@ -1,4 +1,4 @@
-//! The plain implementation behind the boundary: document 01's answer to a call, told as the header says.
+//! The plain implementation behind the boundary: the specification's answer to a call, told as the header says.
 use crate::calls::{self, Call};
 use crate::random::Random;
 use crate::stored::{bytes_of, exchange_of, forge, numbers_of, put_session, EXCHANGE};

@@ -1,7 +1,7 @@
 //! Sessions on both, one thing at a time: at every stage of every method and role each count and each identifier's length, with the step
 //! that is due, a beginning again and a key; and beginnings again with each method, room, I_C and I_S, at counts up to the most. After each
 //! call all that `lists` compares.
-use crate::calls::{Call, Filled, COUNTS, DIGESTS, ID_LENS};
+use crate::calls::{Call, Filled, COUNTS, DIGESTS, ID_LENS, METHODS};
 use crate::lists::{both, Lent};
 use crate::model::Side;
 use crate::random::Random;
@@ -143,11 +143,11 @@ fn accepted(tried: &mut Tried, side: &mut Side, call: &Call, tally: &mut Tally) 
 }
 
 pub fn edges(tried: &mut Tried, tally: &mut Tally) -> Result<(), String> {
-    for (number, role) in (1..=9).flat_map(|number| [(number, 1), (number, 2)]) {
+    for (number, role) in (1..=METHODS as u8).flat_map(|number| [(number, 1), (number, 2)]) {
         let m = plain::method(number).expect("a method");
         let all = calls(role, number, m);
         let mut side = Side::at(&[0xee; EXCHANGE], &[0xdd; plain::ROOM]);
-        let next = again(u64::from(number % 9 + 1), &[20; 30], &[20; 40]);
+        let next = again(u64::from(number % METHODS as u8 + 1), &[20; 30], &[20; 40]);
         for (at, due) in all.iter().zip(all.iter().skip(1).chain([&next])) {
             accepted(tried, &mut side, at, tally)?;
             judged(tried, &side, due, tally)?;

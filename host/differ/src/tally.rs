@@ -1,4 +1,4 @@
-//! How often each entry gave each number, held to the numbers that document 01 and the header let it give.
+//! How often each entry gave each number, held to the numbers that the specification and the header let it give.
 
 /// What INIT's and REPLY's steps answer, and the calls that tell of them.
 const READ: &[u64] = &[0, 1, 3, 10, 11, 12, 13, 14, 15];

@@ -1,7 +1,7 @@
-//! Document 01 in plain Rust, with what has landed of document 02: a second implementation, to hold another one against.
+//! The specification in plain Rust: a second implementation, to hold another one against.
 //!
 //! Everything works on lent slices: nothing is allocated, and nothing panics whatever is handed in. The files
-//! stand in the document's order.
+//! stand in the specification's order.
 
 #![cfg_attr(not(test), no_std)]
 #![forbid(unsafe_code)]

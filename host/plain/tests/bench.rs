@@ -170,15 +170,15 @@ fn with_h_for_identifier(script: &str) -> Vec<String> {
 
 #[test]
 fn examples_of_the_landings() {
-    let sha2 = include_str!("../../../tests/examples/102.script");
-    let keys = include_str!("../../../tests/examples/105.script");
-    let rekeying = include_str!("../../../tests/examples/106.script");
+    let sha2 = include_str!("../../../tests/examples/sha2.script");
+    let keys = include_str!("../../../tests/examples/keys.script");
+    let rekeying = include_str!("../../../tests/examples/rekeying.script");
     let lines = |text: &str| text.lines().map(str::to_string).collect::<Vec<_>>();
     let gained = ["h", "sid", "n"];
-    assert_eq!(without(answers(sha2), &gained), lines(include_str!("../../../tests/examples/102.answers")));
+    assert_eq!(without(answers(sha2), &gained), lines(include_str!("../../../tests/examples/sha2.answers")));
     let of_keys = without(with_h_for_identifier(keys), &gained[1..]);
-    assert_eq!(of_keys, lines(include_str!("../../../tests/examples/105.answers")));
-    assert_eq!(answers(rekeying), lines(include_str!("../../../tests/examples/106.answers")));
+    assert_eq!(of_keys, lines(include_str!("../../../tests/examples/keys.answers")));
+    assert_eq!(answers(rekeying), lines(include_str!("../../../tests/examples/rekeying.answers")));
 }
 
 #[test]

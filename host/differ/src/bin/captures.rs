@@ -1,15 +1,23 @@
-//! captures FOLDER: every captured exchange through the boundary: both KEXINITs read and written again, the choice, and in both
-//! roles every step, the messages, K, the hash input, H, and keys as plain Rust derives them from the captured K and H. Of the primitives'
-//! outputs X and K_PQ alone are handed in.
+//! Every captured exchange through the boundary: HELP says how. Of the primitives' outputs X and K_PQ alone are handed in.
 use castulfrisa::{choose, open_list, raw, same_version, write_kexinit, EXCHANGE, H_SIZE, INIT, REPLY, ROOM};
 use castulfrisa::{Classical, Client, Greeting, Kem, Key, Letter, List, Method, Own, Refusal, Role, Server, Stopped, K, KEY_MOST};
+use differ::command::{words, wrong};
 use differ::lists::PartEntry;
 use differ::stored::bytes_of;
 use plain::Stage;
 use std::collections::HashMap;
 use std::path::Path;
+use std::fs;
 use std::process::ExitCode;
-use std::{env, fs};
+
+const HELP: &str = "\
+usage: captures [FOLDER]      (tests/captures where none is named)
+Every captured exchange of a folder through the library: both KEXINITs read and written again, the choice, and in both roles every step, the messages,
+K, the hash input, H, and keys as plain Rust derives them from the captured K and H. tests/captures/README.md says what a file has.
+`make rust-host` makes it: build/cargo/release/captures, and with the library for size build/cargo-small/release/captures. It takes a tenth of a
+second. Exits 0 with a line for each, 1 at the first that is not as it was or cannot be read, and where there are fewer than eighteen, 2 where it is
+called wrongly.
+";
 
 /// What lent buffers are filled with.
 const LENT: u8 = 0xee;
@@ -334,12 +342,17 @@ fn run(c: &Capture) -> Result<String, String> {
 }
 
 fn main() -> ExitCode {
+    let words = words(HELP);
+    let folder = match &words[..] {
+        [] => "tests/captures",
+        [folder] if !folder.starts_with('-') => folder,
+        _ => return wrong(HELP),
+    };
     if !same_version() {
         eprintln!("captures: the library is of another version");
         return ExitCode::FAILURE;
     }
-    let folder = env::args().nth(1).unwrap_or("tests/captures".into());
-    let mut paths: Vec<_> = match fs::read_dir(&folder) {
+    let mut paths: Vec<_> = match fs::read_dir(folder) {
         Ok(entries) => entries.filter_map(|e| e.ok()).map(|e| e.path()).filter(|p| p.extension().is_some_and(|x| x == "txt")).collect(),
         Err(e) => {
             eprintln!("captures: {}: {}", folder, e);

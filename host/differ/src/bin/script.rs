@@ -1,11 +1,21 @@
-//! script SEED LISTS ROUNDS HASHES: random calls as a bench script, for the bench and for any other program that answers one.
+//! Random calls as a bench script, for the bench and for any other program that answers one.
 use differ::calls::{self, Call, Field, Filled};
 use differ::codecs::{encoded, hex, integer, list_number, output, payload, ten};
+use differ::command::{words, wrong};
 use differ::hashes;
 use differ::model::Side;
 use differ::random::Random;
 use differ::stored::numbers_of;
 use std::io::{self, BufWriter, Write};
+use std::process::ExitCode;
+
+const HELP: &str = "\
+usage: script SEED LISTS ROUNDS HASHES
+Prints random calls as a bench script: so many lists of calls on an exchange, rounds of codecs, KEXINIT and choice, and lists of calls of a hash.
+The same words print the same script. build/bench and plain_bench of host/plain answer it (`bench --help` has the calls), and must answer alike.
+`make rust-host` makes it: build/cargo/release/script. `make script` asks for 3000 2000 2000, some 59,000 calls, which takes a second, and
+`make bench-test` compares the answers. Exits 0, 1 where standard output cannot be written, 2 where it is called wrongly.
+";
 
 const STAGES: [&str; 7] = ["started", "own_c", "init", "reply", "secret", "complete", "failed"];
 
@@ -177,12 +187,7 @@ fn hash(r: &mut Random, out: &mut impl Write) -> io::Result<()> {
     Ok(())
 }
 
-fn main() -> io::Result<()> {
-    let n: Vec<u64> = std::env::args().skip(1).filter_map(|w| w.parse().ok()).collect();
-    let [seed, lists, rounds, hashes] = n[..] else {
-        eprintln!("usage: script SEED LISTS ROUNDS HASHES");
-        std::process::exit(2);
-    };
+fn all([seed, lists, rounds, hashes]: [u64; 4]) -> io::Result<()> {
     let mut out = BufWriter::new(io::stdout().lock());
     writeln!(out, "# seed {}: {} rounds, {} lists, {} hashes", seed, rounds, lists, hashes)?;
     for i in 0..rounds {
@@ -195,4 +200,16 @@ fn main() -> io::Result<()> {
         hash(&mut Random::new(seed, rounds + lists + i), &mut out)?;
     }
     out.flush()
+}
+
+fn main() -> ExitCode {
+    let numbers: Result<Vec<u64>, _> = words(HELP).iter().map(|word| word.parse()).collect();
+    let Some(numbers) = numbers.ok().and_then(|n| n.try_into().ok()) else { return wrong(HELP) };
+    match all(numbers) {
+        Ok(()) => ExitCode::SUCCESS,
+        Err(why) => {
+            eprintln!("script: {}", why);
+            ExitCode::FAILURE
+        }
+    }
 }

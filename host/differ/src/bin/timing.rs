@@ -1,16 +1,22 @@
-//! timing: SHA-2 over 16 KiB fed in one part; from the start through the secret step as server, H included, all fields at their
-//! largest; and a key of 64 bytes; on the compiled core and on the plain implementation in turns. Medians of 1,001, each of so many exchanges
-//! or keys that the clock's own step does not show; rooms cleared first.
-//!
-//! timing core|plain METHOD|choice|key|sha256|sha384|sha512 COUNT: does that alone, so often, and prints nothing, for a counter of
-//! instructions.
+//! Times of the compiled core and of the plain implementation: HELP says which. Each is of so many exchanges or keys that the clock's own step does
+//! not show; rooms are cleared first.
 use castulfrisa::{raw, EXCHANGE, HASH_SIZE, H_SIZE};
 use differ::calls::complete;
+use differ::command::{words, wrong};
 use differ::random::Random;
 use differ::stored::bytes_of;
 use std::hint::black_box;
 use std::process::ExitCode;
 use std::time::Instant;
+
+const HELP: &str = "\
+usage: timing [core|plain METHOD|choice|key|sha256|sha384|sha512 COUNT]
+Without words: the choice that searches longest, SHA-2 over 16 KiB fed in one part, a key of 64 bytes, and from the start through the secret step as
+server, H included, all fields at their largest; on the compiled library and on plain Rust in turns, medians of 1,001. With words it does that alone,
+so often, and prints nothing, for a counter of instructions; METHOD is 1 to 9.
+`make rust-host` makes it: build/cargo/release/timing, and with the library for size build/cargo-small/release/timing; `make measure` runs both. It
+takes 4 seconds. Exits 0, 2 where it is called wrongly, 101 where the two do not answer alike.
+";
 
 const TURNS: usize = 1001;
 const EACH: usize = 16;
@@ -226,7 +232,7 @@ fn counted(words: &[String]) -> bool {
         }
         return true;
     }
-    let Some(method) = what.parse().ok().filter(|m| (1..=9).contains(m)) else { return false };
+    let Some(method) = what.parse().ok().filter(|m| plain::method(*m).is_some()) else { return false };
     let (f, mut room) = (fed(method), vec![0; plain::ROOM]);
     for _ in 0..count {
         black_box(if core { on_core(black_box(&f), black_box(&mut room)) } else { on_plain(black_box(&f), black_box(&mut room)) });
@@ -235,13 +241,12 @@ fn counted(words: &[String]) -> bool {
 }
 
 fn main() -> ExitCode {
-    let words: Vec<String> = std::env::args().skip(1).collect();
+    let words = words(HELP);
     if !words.is_empty() {
         if counted(&words) {
             return ExitCode::SUCCESS;
         }
-        eprintln!("usage: timing [core|plain METHOD|choice|key|sha256|sha384|sha512 COUNT]");
-        return ExitCode::from(2);
+        return wrong(HELP);
     }
     choices();
     hashes();

@@ -1,4 +1,4 @@
-//! Document 01's worked examples, whole exchanges of a client and a server with each other, and forged records.
+//! The specification's worked examples, whole exchanges of a client and a server with each other, and forged records.
 
 use plain::*;
 
@@ -119,7 +119,7 @@ fn x32(first: &[u8], last: u8) -> Vec<u8> {
 }
 
 #[test]
-fn p1_to_p7_k_from_x() {
+fn k_from_x() {
     assert_eq!(k_of(4, &x32(&[], 1)), Ok(vec![0, 0, 0, 1, 1]));
     assert_eq!(k_of(4, &x32(&[], 0)), Ok(vec![0, 0, 0, 0]));
     assert_eq!(k_of(1, &x32(&[], 0)), Err(16));
@@ -139,7 +139,7 @@ fn p1_to_p7_k_from_x() {
 }
 
 #[test]
-fn p8_to_p11_mpint_and_string() {
+fn mpints_and_strings() {
     let mut out = [0xee; 8];
     assert_eq!(write_mpint(&mut out, &[0xff, 0x80]), Written { number: 0, count: 5 });
     assert_eq!(out, [0, 0, 0, 1, 0x80, 0xee, 0xee, 0xee]);
@@ -151,7 +151,7 @@ fn p8_to_p11_mpint_and_string() {
 }
 
 #[test]
-fn p12_reply_cut_in_its_third_length() {
+fn reply_cut_in_its_third_length() {
     let mut room = vec![0xaa; ROOM];
     let e = client_at_own_c(4, &mut room);
     let whole = reply(b"key", &s_value(4), b"signature");
