@@ -12,7 +12,7 @@ CMAKEDIR ?= $(LIBDIR)/cmake/castulfrisa
 PACKAGE = python3 packaging/package.py
 
 install: ## copies what make lib left, with header, man pages and documents, into PREFIX=/usr/local; LIBDIR and others, DESTDIR and TARGET as you like
-	@$(PACKAGE) install --destdir '$(DESTDIR)' $(TARGET:%=--target %) --prefix '$(PREFIX)' --libdir '$(LIBDIR)' --includedir '$(INCLUDEDIR)' \
+	@$(PACKAGE) install --destdir '$(DESTDIR)' --target '$(or $(TARGET),x86-64)' --prefix '$(PREFIX)' --libdir '$(LIBDIR)' --includedir '$(INCLUDEDIR)' \
 		--mandir '$(MANDIR)' --docdir '$(DOCDIR)' --pkgconfigdir '$(PKGCONFIGDIR)' --cmakedir '$(CMAKEDIR)'
 
 uninstall: ## removes what make install put there, by the same PREFIX, DOCDIR and DESTDIR

@@ -63,16 +63,30 @@ def source_time():
 # ---- the files, by their places
 
 
+def known():
+    return subprocess.run(['sh', ROOT / 'host/clang.sh', 'targets'], capture_output=True, text=True, check=True).stdout.split()
+
+
+def must_be_known(targets):
+    strange = [target for target in targets if target not in known()]
+    if strange:
+        raise Refused(f'there is no target {strange[0]}; there are: {" ".join(known())}')
+
+
+def archive_path(target, name):
+    return ROOT / 'build' / ('' if target == 'x86-64' else target) / f'lib{name}.a'
+
+
 def archive(target, name):
     """An archive as host/lib.sh left it, whose sum stands in its key."""
-    path = ROOT / 'build' / ('' if target == 'x86-64' else target) / f'lib{name}.a'
-    of = f'TARGET={target}' if target != 'x86-64' else ''
+    path = archive_path(target, name)
+    command = 'make lib' if target == 'x86-64' else f'make lib TARGET={target}'
     try:
-        data, key = path.read_bytes(), pathlib.Path(f'{path}.key').read_text().split()
+        data, key = path.read_bytes(), pathlib.Path(f'{path}.key').read_text()
     except FileNotFoundError:
-        raise Refused(f'{path.relative_to(ROOT)} is not there: run {" ".join(filter(None, ["make lib", of]))}') from None
-    if hashlib.sha256(data).hexdigest() not in key:
-        raise Refused(f'{path.relative_to(ROOT)} is not what make lib left: run {" ".join(filter(None, ["make lib", of]))}')
+        raise Refused(f'{path.relative_to(ROOT)} is not there: run {command}') from None
+    if hashlib.sha256(data).hexdigest() not in key.split():
+        raise Refused(f'{path.relative_to(ROOT)} is not what {command} left: run it again')
     return data
 
 
@@ -179,6 +193,7 @@ def remove(destdir, files, folders):
 
 
 def install(args):
+    must_be_known([args.target])
     checked(args)
     files = {**for_machine(args.target, args, False), **for_all(args)}
     noted = f'{args.docdir}/{MANIFEST}'
@@ -215,12 +230,8 @@ class Folders(argparse.Namespace):
             pkgconfigdir=f'{prefix}/lib/pkgconfig', cmakedir=f'{prefix}/lib/cmake/castulfrisa')
 
 
-def known():
-    return subprocess.run(['sh', ROOT / 'host/clang.sh', 'targets'], capture_output=True, text=True, check=True).stdout.split()
-
-
 def built():
-    return [target for target in known() if (ROOT / 'build' / ('' if target == 'x86-64' else target) / 'libcastulfrisa.a.key').exists()]
+    return [target for target in known() if pathlib.Path(f'{archive_path(target, "castulfrisa")}.key').exists()]
 
 
 def of_this_machine(data):
@@ -261,9 +272,7 @@ def tar(files, top, at):
 
 
 def dist(args):
-    strange = set(args.targets) - set(known())
-    if strange:
-        raise Refused(f'there is no target {", ".join(sorted(strange))}; there are: {" ".join(known())}')
+    must_be_known(args.targets)
     targets = [target for target in known() if target in (args.targets or built())]
     if not targets:
         raise Refused('there are no archives in build/: run make lib')
