@@ -139,8 +139,8 @@ def staged(scratch):
     holds(f'uninstalled, and left: {sorted(set(tree(stage)) ^ set(before))}', tree(stage) == before)
     said = make('uninstall', *words, ends=2)
     holds(f'uninstalling nothing said {said}', 'nothing is installed there' in said and 'Traceback' not in said)
-    said = make('install', 'PREFIX=here', ends=2)
-    holds(f'a relative prefix said {said}', 'must be an absolute path' in said and not (ROOT / 'here').exists())
+    said = make('install', f'DESTDIR={stage}/', 'PREFIX=here', ends=2)
+    holds(f'a relative prefix said {said}', 'must be an absolute path' in said and tree(stage) == before)
     said = make('install', f'DESTDIR={stage}', 'TARGET=pdp-11', ends=2)
     holds(f'another machine said {said}', 'there is no target pdp-11' in said and tree(stage) == before)
 
