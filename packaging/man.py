@@ -196,8 +196,8 @@ def words(comment):
 
 
 def blocks(lines, names=()):
-    """(kind, tag, text) of a comment's headings, bullets, parameters told one by one, and paragraphs. A line that ends a sentence ahead of its time ends a paragraph,
-    and so does one ahead of the numbers."""
+    """(kind, tag, text) of a comment's headings, bullets, parameters told one by one, and paragraphs. A line that ends a sentence ahead of its
+    time ends a paragraph, and so does one ahead of the numbers."""
     out = []
     for i, line in enumerate(lines):
         before = lines[i - 1] if i else ''
@@ -220,7 +220,8 @@ def blocks(lines, names=()):
         else:
             out.append(['text', '', line])
     # numbers that stand behind a sentence, on its line
-    return [[kind, tag, part] for kind, tag, text in out for part in (re.split(r'(?<=\.) (?=\d+(?: to \d+)?[:;] )', text) if kind == 'text' else [text])]
+    numbers = re.compile(r'(?<=\.) (?=\d+(?: to \d+)?[:;] )')
+    return [[kind, tag, part] for kind, tag, text in out for part in (numbers.split(text) if kind == 'text' else [text])]
 
 
 # ---- the page
@@ -229,7 +230,8 @@ def blocks(lines, names=()):
 NOTATION = [
     ('V_C, V_S', 'The version lines of client and server.'),
     ('I_C, I_S', 'The payloads of their KEXINITs.'),
-    ('C, S', "Their public values, as they go over the wire: RFC 5656's Q_C and Q_S; in methods 7 to 9 the KEM's part, and the classical one behind it."),
+    ('C, S', "Their public values, as they go over the wire: RFC 5656's Q_C and Q_S; in methods 7 to 9 the KEM's part, and the classical one "
+             'behind it.'),
     ('INIT, REPLY', "The payloads of the messages 30 and 31: the client's with C, and the server's with K_S, S and the signature."),
     ('K_S', "The server's host key, as a blob. The library asks for no form of it, nor of the signature."),
     ('X, K_PQ', 'What the classical primitive gave, and what the KEM gave.'),
@@ -338,7 +340,7 @@ def page(text, version, date, examples):
     given = [enum for enum in header.enums if enum.name == 'castulfrisa_number']
     of_numbers = [section for section in header.sections if section.title.startswith('Numbers given back')]
     if not (name and after and given and of_numbers and header.version):
-        raise Unclear('the opening has no name or no answers, or there is no enum castulfrisa_number, no section for it or no CASTULFRISA_VERSION')
+        raise Unclear('the opening has no name or no answers, or there is no enum castulfrisa_number, no section for it, no CASTULFRISA_VERSION')
     if [case for case in given[0].cases if not case[2]]:
         raise Unclear('a number has no comment')
     n, of_version = header.version

@@ -6,8 +6,8 @@ usage: package.py version
        package.py uninstall [--destdir DIR] --docdir DIR
        package.py dist [--into DIR] TARGET...          (no TARGET: those whose archives are in build/)
 
-PLACES are --prefix, --libdir, --includedir, --mandir, --docdir, --pkgconfigdir and --cmakedir. dist leaves castulfrisa-VERSION.tar.gz and its sum in DIR
-(build/dist); its bytes are those of what went in, and of SOURCE_DATE_EPOCH or the last commit's time.
+PLACES are --prefix, --libdir, --includedir, --mandir, --docdir, --pkgconfigdir and --cmakedir. dist leaves castulfrisa-VERSION.tar.gz and its sum
+in DIR (build/dist); its bytes go by what is packed, and by SOURCE_DATE_EPOCH or the last commit's time, alone.
 """
 import argparse
 import hashlib
@@ -226,8 +226,8 @@ class Folders(argparse.Namespace):
     """The places below a prefix, by default."""
 
     def __init__(self, prefix, share):
-        super().__init__(prefix=prefix, libdir=f'{prefix}/lib', includedir=f'{prefix}/include', mandir=f'{share}/man', docdir=f'{share}/doc/castulfrisa',
-            pkgconfigdir=f'{prefix}/lib/pkgconfig', cmakedir=f'{prefix}/lib/cmake/castulfrisa')
+        super().__init__(prefix=prefix, libdir=f'{prefix}/lib', includedir=f'{prefix}/include', mandir=f'{share}/man',
+            docdir=f'{share}/doc/castulfrisa', pkgconfigdir=f'{prefix}/lib/pkgconfig', cmakedir=f'{prefix}/lib/cmake/castulfrisa')
 
 
 def built():
@@ -237,7 +237,8 @@ def built():
 def of_this_machine(data):
     """The first of this machine's folders that stands in a file: that of the repository, or of the kit."""
     kit = shutil.which('rt')
-    for folder in filter(None, [str(ROOT), kit and str(pathlib.Path(kit).resolve().parent.parent)]):
+    folders = {str(ROOT), str(pathlib.Path(kit).resolve().parent.parent) if kit else '/'} - {'/', '/usr', '/usr/local'}
+    for folder in sorted(folders):
         if re.search(rb'(?<![\w./-])' + re.escape(folder.encode()) + rb'(?![\w-])', data):
             return folder
     return None
@@ -283,7 +284,7 @@ def dist(args):
     into.mkdir(parents=True, exist_ok=True)
     put(into / f'{top}.tar.gz', data)
     put(into / f'{top}.tar.gz.sha256', f'{hashlib.sha256(data).hexdigest()}  {top}.tar.gz\n'.encode())
-    print(f'dist: {into / top}.tar.gz, {len(data)} bytes, {len(files)} files, for {", ".join(targets)}')
+    print(f'dist: {os.path.relpath(into / top)}.tar.gz, {len(data)} bytes, {len(files)} files, for {", ".join(targets)}')
 
 
 def main():

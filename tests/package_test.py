@@ -1,6 +1,6 @@
 #!/usr/bin/env python3
-"""The packages as a user meets them, from the archives that are in build/: installed and removed again; found by pkg-config and CMake and linked into C, C++ and
-Rust programs; the man pages; and packed, twice, from two folders.
+"""The packages as a user meets them, from the archives that are in build/: installed and removed again; found by pkg-config and CMake and linked
+into C, C++ and Rust programs; the man pages; and packed, twice, from two folders.
 
 usage: package_test.py
 """
@@ -25,7 +25,8 @@ DIGEST = hashlib.sha256(b'abc').hexdigest()
 # Debian's package of each program that not every machine with a compiler has
 PACKAGES = {'pkg-config': 'pkgconf', 'cmake': 'cmake', 'groff': 'groff-base'}
 # what would say something else than the test does
-CLEAN = re.compile('MAKE|MFLAGS|(DEST|LIB|INCLUDE|MAN|DOC|PKGCONFIG|CMAKE)DIR$|PREFIX|TARGET|PKG_CONFIG|CMAKE|CARGO_(BUILD|TARGET)|CASTULFRISA|SOURCE_DATE|GROFF')
+CLEAN = re.compile('MAKE|MFLAGS|(DEST|LIB|INCLUDE|MAN|DOC|PKGCONFIG|CMAKE)DIR$|PREFIX|TARGET|PKG_CONFIG|CMAKE|CARGO_(BUILD|TARGET)|CASTULFRISA|'
+                   'SOURCE_DATE|GROFF')
 ENV = {name: value for name, value in os.environ.items() if not CLEAN.match(name)}
 
 
@@ -69,7 +70,7 @@ def entries():
 
 def documents():
     paths = [ROOT / 'README.md', ROOT / 'CHANGELOG.md', ROOT / 'host/example.c', *(ROOT / 'docs').glob('*.md'), *(ROOT / 'docs').glob('*.svg')]
-    return {str(path.relative_to(ROOT)): path for path in paths} | {f'examples/{path.name}': path for path in (EXAMPLES / 'hash.c', EXAMPLES / 'exchange.c')}
+    return {str(path.relative_to(ROOT)): path for path in paths} | {f'examples/{name}.c': EXAMPLES / f'{name}.c' for name in ('hash', 'exchange')}
 
 
 def flags(where, name='castulfrisa', **env):
@@ -149,8 +150,8 @@ def by_pkg_config(scratch):
     """C and C++ below a prefix, and below DESTDIR as a distribution builds; both archives."""
     stage, prefix = scratch / 'stage', scratch / 'prefix'
     make('install', f'DESTDIR={stage}', 'PREFIX=/usr')
-    cflags, libs = flags(stage / 'usr/lib/pkgconfig', PKG_CONFIG_SYSROOT_DIR=str(stage), PKG_CONFIG_ALLOW_SYSTEM_CFLAGS='1', PKG_CONFIG_ALLOW_SYSTEM_LIBS='1')
-    compiled(scratch, cflags, libs)
+    system = {'PKG_CONFIG_SYSROOT_DIR': str(stage), 'PKG_CONFIG_ALLOW_SYSTEM_CFLAGS': '1', 'PKG_CONFIG_ALLOW_SYSTEM_LIBS': '1'}
+    compiled(scratch, *flags(stage / 'usr/lib/pkgconfig', **system))
     make('install', f'PREFIX={prefix}')
     for name in ('castulfrisa', 'castulfrisa-small'):
         cflags, libs = flags(prefix / 'lib/pkgconfig', name)
@@ -239,7 +240,7 @@ def man_pages(scratch):
         said = run(sys.executable, ROOT / 'packaging/man.py', scratch / 'wrong.h', VERSION, '', ends=1)
         holds(f'a page of a header that is wrong: {said}', cause in said and 'Traceback' not in said)
 
-    wipe = '/* Fills a buffer with zeros. It stands in the archive as machine code, out of the host compiler\'s sight, which can drop no part of it. */\n'
+    wipe = re.search(r'(?m)^/\* .*\*/\n(?=void castulfrisa_wipe\()', header)[0]
     refused(wipe, '', 'castulfrisa_wipe has no comment')
     refused('/* ---- for the host */\n', wipe, 'belongs to nothing')
     refused('228       /* the exchange, exactly */', '228', 'CASTULFRISA_EXCHANGE has no comment')
@@ -275,7 +276,7 @@ def copied(folder):
 
 
 def packed(scratch):
-    """The same bytes from two folders, whoever builds, wherever and whenever; every file has its sum; and what stands there can be used, also copied."""
+    """The same bytes from two folders, whoever builds, wherever and whenever; every file has its sum; what stands there can be used, also copied."""
     name = f'castulfrisa-{VERSION}.tar.gz'
     package('dist', '--into', scratch / 'one', 'x86-64')
     first = (scratch / 'one' / name).read_bytes()
@@ -285,16 +286,16 @@ def packed(scratch):
         members = packing.getmembers()
     names = [member.name for member in members]
     holds('the names are not sorted', names == sorted(names))
-    holds('owners or modes differ', {(m.uid, m.gid, m.uname, m.gname, m.mode) for m in members} == {(0, 0, '', '', 0o644), (0, 0, '', '', 0o755)})
-    committed = ''
-    if shutil.which('git'):
-        committed = subprocess.run(['git', '-c', 'safe.directory=*', 'log', '-1', '--format=%ct'], cwd=ROOT, env=ENV, capture_output=True, text=True).stdout
-    at = int(committed or 0)
+    holds('owners differ', {(m.uid, m.gid, m.uname, m.gname) for m in members} == {(0, 0, '', '')})
+    holds('modes differ', {(m.isdir(), m.mode) for m in members} == {(False, 0o644), (True, 0o755)})
+    committed = ['git', '-c', 'safe.directory=*', 'log', '-1', '--format=%ct']
+    at = int(subprocess.run(committed, cwd=ROOT, env=ENV, capture_output=True, text=True).stdout or 0) if shutil.which('git') else 0
     holds('the times are not the last commit\'s', {m.mtime for m in members} == {at})
 
     other = scratch / 'another folder'
     machines = copied(other)
-    package('dist', '--into', scratch / 'two', 'x86-64', folder=other, cwd=scratch, umask=0o077, SOURCE_DATE_EPOCH=str(at), TZ='Asia/Tokyo', LC_ALL='C')
+    elsewhere = {'cwd': scratch, 'umask': 0o077, 'SOURCE_DATE_EPOCH': str(at), 'TZ': 'Asia/Tokyo', 'LC_ALL': 'C'}
+    package('dist', '--into', scratch / 'two', 'x86-64', folder=other, **elsewhere)
     holds('another folder gives other bytes', (scratch / 'two' / name).read_bytes() == first)
     package('dist', '--into', scratch / 'all', folder=other, cwd=scratch)
     with tarfile.open(scratch / 'all' / name) as packing:
@@ -307,11 +308,11 @@ def packed(scratch):
     holds('SHA256SUMS is not that of the files', inside['SHA256SUMS'].decode() == sums)
     for path, data in inside.items():
         holds(f'{path} names a folder of this machine', not any(str(folder).encode() in data for folder in (ROOT, scratch)))
-    needed = ['README.md', 'share/man/man3/castulfrisa.3', 'share/doc/castulfrisa/docs/HOST.md', 'rust/castulfrisa/Cargo.toml', 'rust/castulfrisa/src/lib.rs',
-              'rust/castulfrisa/README.md', 'SHA256SUMS']
+    needed = ['README.md', 'SHA256SUMS', 'share/man/man3/castulfrisa.3', 'share/doc/castulfrisa/docs/HOST.md',
+              *(f'rust/castulfrisa/{name}' for name in ('Cargo.toml', 'README.md', 'build.rs', 'src/lib.rs', 'examples/exchange.rs'))]
     for machine in machines:
-        needed += [f'{machine}/include/castulfrisa.h', *(f'{machine}/lib/{file}' for file in ('libcastulfrisa.a', 'libcastulfrisa-small.a', 'pkgconfig/castulfrisa.pc',
-                   'pkgconfig/castulfrisa-small.pc', 'cmake/castulfrisa/castulfrisa-config.cmake', 'cmake/castulfrisa/castulfrisa-config-version.cmake'))]
+        needed += [f'{machine}/{name}' for name in ('include/castulfrisa.h', 'lib/libcastulfrisa.a', 'lib/libcastulfrisa-small.a',
+            'lib/pkgconfig/castulfrisa.pc', 'lib/pkgconfig/castulfrisa-small.pc', 'lib/cmake/castulfrisa/castulfrisa-config.cmake')]
         version = inside[f'{machine}/lib/cmake/castulfrisa/castulfrisa-config-version.cmake'].decode()
         holds(f'the pointers of {machine}', f'EQUAL {4 if machine in ("armv7", "cortex-m3") else 8})' in version)
     holds(f'not packed: {sorted(set(needed) - set(inside))}', set(needed) <= set(inside))
@@ -345,8 +346,9 @@ def in_rust(scratch):
     words = {'CARGO_TARGET_DIR': str(scratch / 'target'), 'RUST_BACKTRACE': '0'}
     holds('Cargo.toml has another version', re.search('(?m)^version = "(.*)"$', (crate / 'Cargo.toml').read_text())[1] == VERSION)
 
-    for cause, line in [({'CASTULFRISA_LIB': f'{scratch}/nowhere'}, f'there is no {scratch}/nowhere/libcastulfrisa.a: run make lib or set CASTULFRISA_LIB'),
-                        ({}, 'build/libcastulfrisa.a: run make lib or set CASTULFRISA_LIB'),
+    advice = 'run make lib or set CASTULFRISA_LIB'
+    for cause, line in [({'CASTULFRISA_LIB': f'{scratch}/nowhere'}, f'there is no {scratch}/nowhere/libcastulfrisa.a: {advice}'),
+                        ({}, f'build/libcastulfrisa.a: {advice}'),
                         ({'CASTULFRISA_LIB': 'lib'}, 'it is an absolute path'),
                         ({'CASTULFRISA_LIB': lib, 'CASTULFRISA_VARIANT': 'fast'}, 'CASTULFRISA_VARIANT is "fast": it is speed or small')]:
         said = run(*cargo, 'check', cwd=crate, ends=101, **words, **cause)
@@ -359,14 +361,21 @@ def in_rust(scratch):
 
     # an archive of another version: the real one with another number
     (scratch / 'other').mkdir()
-    (scratch / 'other/version.c').write_text(f'#include <stdint.h>\nuint64_t castulfrisa_version(void);\nuint64_t castulfrisa_version(void) {{ return {int(N) + 1}; }}\n')
+    (scratch / 'other/version.c').write_text(f'unsigned long long castulfrisa_version(void) {{ return {int(N) + 1}; }}\n')
     run('ar', 'x', f'{lib}/libcastulfrisa.a', cwd=scratch / 'other')
     run('objcopy', '--redefine-sym', 'castulfrisa_version=its_own', 'boundary.o', cwd=scratch / 'other')
     run('gcc', '-c', 'version.c', cwd=scratch / 'other')
     run('ar', 'rcs', 'libcastulfrisa.a', 'boundary.o', 'version.o', cwd=scratch / 'other')
     user = scratch / 'user'
     (user / 'src').mkdir(parents=True)
-    (user / 'Cargo.toml').write_text(f'[package]\nname = "user"\nversion = "0.0.0"\nedition = "2021"\n\n[dependencies]\ncastulfrisa = {{ version = "0.{N}", path = "{crate}" }}\n')
+    (user / 'Cargo.toml').write_text(f'''[package]
+name = "user"
+version = "0.0.0"
+edition = "2021"
+
+[dependencies]
+castulfrisa = {{ version = "0.{N}", path = "{crate}" }}
+''')
     (user / 'src/main.rs').write_text('''use castulfrisa::{Client, Greeting, Method, EXCHANGE, ROOM};
 
 fn main() {
@@ -393,8 +402,9 @@ def versions(scratch):
     holds(f'CHANGELOG.md begins with {first}', first == VERSION)
 
 
-PARTS = {versions: [], staged: ['make', 'nm'], by_pkg_config: ['make', 'gcc', 'g++', 'pkg-config'], by_cmake: ['make', 'gcc', 'cmake'], man_pages: ['make', 'nm', 'groff'],
-         packed: ['gcc', 'pkg-config', 'gzip', 'tar'], in_rust: ['make', 'gcc', 'ar', 'objcopy', 'cargo', 'tar', 'gzip']}
+PARTS = {versions: [], staged: ['make', 'nm'], by_pkg_config: ['make', 'gcc', 'g++', 'pkg-config'], by_cmake: ['make', 'gcc', 'cmake'],
+         man_pages: ['make', 'nm', 'groff'], packed: ['gcc', 'pkg-config', 'gzip', 'tar'],
+         in_rust: ['make', 'gcc', 'ar', 'objcopy', 'cargo', 'tar', 'gzip']}
 
 
 def main():
