@@ -161,3 +161,5 @@ soak: host
 measure: rust-host
 	@sh host/lib.sh x86-64 $(patsubst build/%/libcastulfrisa.a,%,$(wildcard build/*/libcastulfrisa.a))
 	python3 tests/measure.py $(RUST)/timing $(RUST_SMALL)/timing
+
+include packaging/package.mk

@@ -130,7 +130,7 @@
 //! ```
 use crate::raw::{self, Progress};
 use crate::refusal::{judged, Refusal};
-use crate::{bytes, Key, Letter, Method, EXCHANGE, H_SIZE};
+use crate::{bytes, same_version, Key, Letter, Method, EXCHANGE, H_SIZE};
 use core::fmt;
 use core::marker::PhantomData;
 
@@ -481,9 +481,14 @@ impl<R: Side, S> Exchange<'_, R, S> {
 impl<'r, R: Side> Exchange<'r, R, Started> {
     /// Starts an exchange in bytes that may hold anything; the greeting goes into the room, which is of `ROOM` bytes or more.
     /// Where it is refused the room stays as it was.
+    ///
+    /// # Panics
+    ///
+    /// Where the archive that was linked is of another version than this crate (`same_version`).
     pub fn start(
         method: Method, greeting: Greeting<'_>, exchange: &'r mut [u8; EXCHANGE], room: &'r mut [u8],
     ) -> Result<Self, Refusal> {
+        assert!(same_version(), "the library is of another version than this crate");
         let Greeting { vc, vs, ic, is } = greeting;
         judged(raw::start(exchange, R::ROLE as u64, method.number(), vc, vs, ic, is, room))?;
         Ok(Exchange { lent: Lent { exchange, room }, stage: Started(()), role: PhantomData })

@@ -118,7 +118,7 @@ pub const METHOD_NAME_MOST: usize = 28;
 pub const STACK: usize = 4_096;
 
 /// Whether the archive that was linked is of this crate's day: ask once, ahead of all else. Sizes and entries of another one
-/// differ.
+/// differ, and starting an exchange with it panics.
 pub fn same_version() -> bool {
     raw::version() == VERSION
 }
