@@ -348,7 +348,8 @@ CASTULFRISA_MUST_USE uint64_t castulfrisa_read_reply(
    kem     enum castulfrisa_kem: absent exactly in methods 1 to 6.
    k_pq    the KEM's CASTULFRISA_K_PQ_SIZE bytes where it is done, whatever the classical primitive did; empty where it is not.
    ks, s   a server's host key blob and own public value, also where a primitive failed; a client's are not looked at.
-   h       becomes H: the method's hash of the room's first count bytes, as they stand behind this step.
+   h       becomes H: the method's hash of the room's first count bytes, as they stand behind this step. What is signed and verified is its
+           first digest_len bytes (castulfrisa_method_sizes), and not the zeros behind them.
    K goes into the exchange and the room, in methods 7 to 9 the string of the method's hash of K_PQ and then X; H into the exchange; a server's
    K_S goes into the room ahead of C, its S behind it. Count: length of the hash input, which is the room's beginning.
    1; 3; 4: one of the inputs, also any other number for kem; 16, 17: the primitives' failures, the peer's fault. */
@@ -460,7 +461,8 @@ static CASTULFRISA_NOINLINE void castulfrisa_wipe_stack(void)
 typedef struct { const uint8_t *at; uint64_t len; } castulfrisa_bytes;
 
 /* Lays ten lists one behind another into joined, and their ends into ends, for castulfrisa_write_kexinit. Returns how many bytes they
-   have in all; more than joined_len says that they did not fit, and joined is not to be used. */
+   have in all; more than joined_len says that they did not fit, and joined is not to be used. CASTULFRISA_KEXINIT_MOST bytes hold the lists
+   of every KEXINIT that can be written. */
 CASTULFRISA_MUST_USE static inline uint64_t castulfrisa_join(
     const castulfrisa_bytes lists[CASTULFRISA_LISTS], uint8_t *joined, uint64_t joined_len, uint64_t ends[CASTULFRISA_LISTS])
 {
