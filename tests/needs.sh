@@ -91,27 +91,29 @@ install() { apt install -y --no-install-recommends $packages; }
 has_lists() { ls /var/lib/apt/lists/*_Packages* >/dev/null 2>&1; }
 
 # The places where something listens on port 22.
-listening() { awk '$4 == "0A" && $2 ~ /:0016$/ { print FILENAME, $2 }' /proc/net/tcp /proc/net/tcp6 2>/dev/null | sort -u; }
+listening() { awk '$4 == "0A" && $2 ~ /:0016$/ { print FILENAME "," $2 }' /proc/net/tcp /proc/net/tcp6 2>/dev/null | sort -u; }
+
+# An sshd is wanted for its program, which the tests start on a port of the loopback. Debian's unit and its init script start none where this file is.
+kept=''
+keep_from_starting() { [ -e $not_to_be_run ] || { mkdir -p "${not_to_be_run%/*}"; : >$not_to_be_run; kept=yes; }; }
+let_start() { [ -z "$kept" ] || has sshd || rm -f $not_to_be_run; }
 
 install_missing() {
     command -v apt-get >/dev/null || give_up "missing: $missing; in brackets Debian's packages, and there is no apt-get here"
-    [ "$(id -u)" = 0 ] || give_up "missing: $missing; in brackets Debian's packages, which root can install: apt-get install $packages"
+    [ "$(id -u)" = 0 ] || give_up "missing: $missing; in brackets Debian's packages, which root installs by apt-get install $packages"
     say "missing: $missing; installing these packages of Debian's"
-
-    # An sshd is wanted for its program, run on a port of the loopback's while a test lasts. Debian's unit and its init script start none where this file is.
-    kept=''
-    case " $packages " in *' openssh-server '*) [ -e $not_to_be_run ] || { mkdir -p "${not_to_be_run%/*}"; : >$not_to_be_run; kept=yes; } ;; esac
+    case " $packages " in *' openssh-server '*) keep_from_starting ;; esac
     before=$(listening)
     : >$log
-    { has_lists || apt update; } && install || { apt update && install; } || {
-        [ -z "$kept" ] || rm -f $not_to_be_run
+    # a list that fails is not always one that is needed
+    has_lists && install || { apt update || :; install; } || {
         sed -n 's/^E: /needs: apt-get: /p' $log | tail -n 3 >&2
         give_up "missing: $missing; in brackets Debian's packages, which apt-get could not install, see $log"
     }
-    [ -z "$kept" ] || say "no sshd was started, and none starts at boot, by $not_to_be_run: to have Debian's own, remove that file and start ssh"
-    for place in $(listening | tr ' ' ,); do
-        case " $(echo "$before" | tr ' \n' ', ') " in *" $place "*) ;; *) give_up "something listens on port 22 since these packages were installed: $packages" ;; esac
+    for place in $(listening); do
+        case " $(echo $before) " in *" $place "*) ;; *) give_up "something listens on port 22 since apt-get installed $packages" ;; esac
     done
+    [ -z "$kept" ] || say "no sshd was started, and none starts at boot, by $not_to_be_run: to have Debian's own, remove that file and start ssh"
 }
 
 # ---- the groups asked for
@@ -133,7 +135,7 @@ done
 
 mkdir -p build
 scratch=$(mktemp)
-trap 'rm -f "$scratch"' EXIT
+trap 'rm -f "$scratch"; let_start' EXIT
 trap 'exit 130' HUP INT TERM
 # shellcheck disable=SC2086
 ask $things
