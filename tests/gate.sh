@@ -1,13 +1,16 @@
 #!/bin/sh
 # The gate: the programs' inputs and outputs, the layout, rt ci (every crate from nothing, every edit that must be refused, every program),
 # whether each wrong program was refused where it is wrong, then the library that was proved, its hosts, and the library for other machines. The
-# last line is that of rt ci, and it stands there only where all passed.
+# last line is that of rt ci, and it stands there only where all passed. What is missing is said ahead of all that.
+# usage: gate.sh
 set -eu
 cd "$(dirname "$0")/.."
+case ${1-} in -h | --help) sed -n '2,/^set/s/^# \{0,1\}//p' tests/gate.sh; exit ;; esac
 mkdir -p build
-make="make --no-print-directory"
+make="make --no-print-directory ASKED=yes"
 
-$make needs cross vectors
+sh tests/needs.sh kit host gate cross
+$make vectors
 rt fmt --check
 
 # rt waits for the last of each batch of RT_JOBS: three to a core keep the cores busy, at most 1.6 GB each. build/ci.log keeps what rt
@@ -21,7 +24,7 @@ python3 tests/refused.py || { echo "gate: a wrong program was not refused where 
 # The library anew, from the crates that rt ci has proved.
 rm -rf build/checked build/checked.key
 find build -name '*.a.key' -delete
-$make -j2 --output-sync=target host-test targets || { echo "gate: the host tests failed"; exit 1; }
+$make -j2 --output-sync=target checks || { echo "gate: the host tests failed"; exit 1; }
 
 case $verdict in
 *' passed, 0 failed') echo "$verdict" ;;

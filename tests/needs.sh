@@ -4,7 +4,7 @@
 # usage: needs.sh GROUP...
 #   kit    the Rattle kit, and whether it is the one that kit.txt pins; it comes with no package
 #   host   what makes and runs the C hosts and their meetings with OpenSSH
-#   gate   what the gate takes beside that: a C++ compiler, and cargo, which is not installed here either
+#   gate   what the gate takes beside that: a C++ compiler, and cargo, which is not installed here
 #   cross  what makes and runs programs for other machines
 set -eu
 cd "$(dirname "$0")/.."
@@ -39,6 +39,7 @@ things_of() { # GROUP
 }
 packages_of() { # THING
     case $1 in
+    cargo) ;;
     gcc) echo gcc libc6-dev ;;
     libcrypto) echo libssl-dev ;;
     ssh | ssh-keygen) echo openssh-client ;;
@@ -63,13 +64,14 @@ has() { # THING
     libcrypto) makes gcc openssl/evp.h -lcrypto ;;
     *-gcc) makes "$1" stdio.h -static ;;
     sshd) command -v sshd >/dev/null || [ -x /usr/sbin/sshd ] ;;
+    cargo) cargo --offline metadata --format-version 1 --manifest-path host/Cargo.toml >/dev/null 2>&1 ;;
     *) command -v "$1" >/dev/null ;;
     esac
 }
 
-# Puts what is missing into missing, said in words with its packages, and the packages to install into packages.
+# Puts what is missing into missing, said in words with its packages, the packages to install into packages, and into elsewhere what none of them has.
 ask() { # THING...
-    missing='' packages=''
+    missing='' packages='' elsewhere=''
     for thing; do
         ! has "$thing" || continue
         case $thing in
@@ -77,8 +79,9 @@ ask() { # THING...
         *) words=$thing ;;
         esac
         of=$(packages_of "$thing")
+        [ -n "$of" ] || { of="Rust's own; Debian 12's is too old" elsewhere=$thing; }
         missing="$missing${missing:+, }$words ($of)"
-        for package in $of; do
+        for package in $(packages_of "$thing"); do
             case " $packages " in *" $package "*) ;; *) packages="$packages${packages:+ }$package" ;; esac
         done
     done
@@ -139,7 +142,7 @@ trap 'rm -f "$scratch"; let_start' EXIT
 trap 'exit 130' HUP INT TERM
 # shellcheck disable=SC2086
 ask $things
-case $missing in *cargo*) give_up "missing: $missing" ;; esac
+[ -z "$elsewhere" ] || give_up "missing: $missing; in brackets what has it, Debian's packages but for $elsewhere"
 if [ -n "$missing" ]; then
     install_missing
     ask $things
