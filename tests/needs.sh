@@ -20,7 +20,7 @@ give_up() { echo "needs: $*" >&2; exit 2; }
 ask_for_kit() {
     command -v rt >/dev/null || give_up "no rt on PATH: it is the command of the Rattle kit, which proves and compiles the library; README.md has where to look, under 'The kit'"
     pinned=$(cat kit.txt)
-    here=$(rt version 2>&1) || give_up "the Rattle kit does not run here: $here"
+    here=$(rt version 2>&1) || give_up "the rt on PATH does not say its version: $(echo "$here" | head -n 1)"
     case $here in
     "$pinned") ;;
     rattle*) say "this kit is '$here', and the proofs were made with '$pinned', the one in kit.txt: whether they hold with this one the prover itself decides" ;;
