@@ -26,7 +26,7 @@ demo: ## prove and build the library, and let a host on OpenSSL meet a real sshd
 	@python3 tests/live/demo.py --dock build/dock --bench build/bench --steps build/demo.txt $(if $(VERBOSE),--verbose)
 
 # The gate. Its last line is that of rt ci, printed where all else passed too.
-test: ## the gate: every proof from nothing, every edit that must be refused, then the compiled library (most of an hour)
+test: ## the gate: every proof from nothing, every edit that must be refused, then the compiled library (half an hour on two cores)
 	@sh tests/gate.sh
 
 # What the gate asks of what was proved.
@@ -189,7 +189,7 @@ targets: cross script ## the library for other machines, under qemu
 
 # Longer runs: exchanges with a real sshd, and many in one connection with sshd and ssh; and the library against the plain implementation, with another
 # seed each time.
-soak: host ## longer runs with sshd and ssh, and against plain Rust (hours)
+soak: host ## longer runs with sshd and ssh, and against plain Rust
 	python3 tests/live/soak.py --dock build/dock --count 2000 --later 2000
 	$(RUST)/differ --seed $$(date +%s) --lists 20000000 --rounds 4000000 --hashes 4000000 --progress
 	$(RUST_SMALL)/differ --seed $$(date +%s) --lists 2000000 --rounds 400000 --hashes 400000 --progress

@@ -72,6 +72,9 @@ def as_client(programs, dock, version, port):
     told = Told()
     shows = {1: "dock verified sshd's signature over the H that the library computed, and read sshd's first packet, sealed with derived keys",
              4: "the same on a NIST curve"}
+    # where both OpenSSL and OpenSSH have ML-KEM
+    if METHODS[9] in dock.run("--help")[1] and METHODS[9] in programs.run(["ssh", "-Q", "kex"])[1].split():
+        shows[9] = "the same in a hybrid"
     for method in shows:
         code, out, err = dock.run("client", "127.0.0.1", port, "--known-hosts", known(programs, f"known{method}", port), "--methods", METHODS[method],
                                   "--host-keys", KEY, "--show")
