@@ -43,13 +43,6 @@ vectors:
 kit:
 	@$(if $(ASKED),,sh tests/needs.sh kit)
 
-# Debian's packages, installed where what they have is missing: what a host on OpenSSL and its tests need, and what makes and runs programs for other
-# machines. Cross behind the others: apt-get runs once at a time.
-needs: ## install what is missing of Debian's packages for the hosts and their tests
-	@$(if $(ASKED),,sh tests/needs.sh host)
-cross: needs ## the same for programs of other machines: cross compilers and qemu
-	@$(if $(ASKED),,sh tests/needs.sh cross)
-
 # The static library, for speed and for size: proved first (some four minutes from nothing), and left alone where nothing that it is made
 # of changed. TARGET names another machine to build it for, one of TARGETS or several; those archives go into build/TARGET/.
 lib: kit ## the static library in build/, proved first; with TARGET=aarch64 for that machine too
@@ -63,6 +56,13 @@ $(LIB) $(SMALL): lib
 same: lib ## whether the library is byte for byte what rt makes by itself
 	@rt staticlib boundary > build/staticlib.log 2>&1 || { tail -n 20 build/staticlib.log; exit 1; }
 	cmp target/staticlib/libboundary.a $(LIB)
+
+# Debian's packages, installed where what they have is missing: what a host on OpenSSL and its tests need, and what makes and runs programs for other
+# machines. Cross behind the others: apt-get runs once at a time.
+needs: ## install what is missing of Debian's packages for the hosts and their tests
+	@$(if $(ASKED),,sh tests/needs.sh host)
+cross: needs ## the same for programs of other machines: cross compilers and qemu
+	@$(if $(ASKED),,sh tests/needs.sh cross)
 
 # The C programs, plain and under the sanitizers, and with the library for size. What the stack is left with depends on the level of
 # optimization, and on whether memcpy and memset are looked up ahead or at their first call.
@@ -127,7 +127,7 @@ rust-host: lib ## the Rust wrapper, the plain implementation and what compares t
 
 host: c-host rust-host
 
-# The compiled library: its header, its hosts, and every answer against the plain implementation of document 01.
+# The compiled library: its header, its hosts, and every answer against the plain implementation of the specification.
 host-test: c-test rust-test bench-test differ-test live-test ## the compiled library: header, hosts, and every answer against plain Rust
 
 # The header also for 32 bits; and a result that is ignored must be refused: for that alone, and of each of the header's entries.
@@ -176,13 +176,13 @@ NEWER = -Wl,--allow-shlib-undefined
 hybrids: needs lib ## methods 7 to 9 live, with newer programs of Debian's, fetched and unpacked into build/
 	@sh tests/suite.sh trixie $(HYBRIDS)/trixie openssh-server openssh-client putty-tools libssl-dev
 	@sh tests/suite.sh forky $(HYBRIDS)/forky libssh-dev
-	gcc -std=c11 $(WARN) -isystem $(HYBRIDS)/trixie/usr/include -isystem $(HYBRIDS)/trixie/usr/include/$(MULTIARCH) host/dock/*.c $(LIB) \
+	gcc -std=c11 $(WARN) -isystem $(HYBRIDS)/trixie/usr/include -isystem $(HYBRIDS)/trixie/usr/include/$(MULTIARCH) $(DOCK) $(LIB) \
 		$(HYBRIDS)/trixie/usr/lib/$(MULTIARCH)/libcrypto.so $(NEWER) -o $(HYBRIDS)/dock
 	gcc -std=c11 $(WARN) -idirafter $(HYBRIDS)/forky/usr/include tests/live/libssh_peer.c $(HYBRIDS)/forky/usr/lib/$(MULTIARCH)/libssh.so $(NEWER) \
 		-o $(HYBRIDS)/libssh_peer
 	python3 tests/live/hybrids.py --dock $(HYBRIDS)/dock --suite $(HYBRIDS)/trixie --libssh $(HYBRIDS)/forky --peer $(HYBRIDS)/libssh_peer
 
-# The library for other machines, under qemu: header, stack, the script, document 01's examples and the captures, and what it costs there.
+# The library for other machines, under qemu: header, stack, the script, the specification's examples and the captures, and what it costs there.
 targets: cross script ## the library for other machines, under qemu
 	@sh host/lib.sh $(TARGETS)
 	python3 tests/targets.py build/host/script build/host/answers
