@@ -87,6 +87,7 @@ c-host: needs build/bench build/dock $(C_PLAIN) $(C_SMALL)
 build/bench build/dock $(C_PLAIN): $(LIB)
 $(C_SMALL): $(SMALL)
 build/bench build/dock $(C_PLAIN) $(C_SMALL): include/castulfrisa.h Makefile | build/host
+$(C_PLAIN) $(C_SMALL): $(wildcard tests/*.h)
 $(ON_OPENSSL): | needs
 build/host:
 	@mkdir -p $@
@@ -102,7 +103,7 @@ build/host/dock_san:
 	gcc -std=c11 $(WARN) $(SAN) $(C_SOURCES) -lcrypto -o $@
 build/host/dock_wrong: tests/live/wrong_keys.c
 	gcc -std=c11 $(WARN) $(C_SOURCES) $(WRAPPED:%=-Wl,--wrap=%) -lcrypto -o $@
-build/host/header_c build/host/header_cc build/host/header_san build/host/header_small: $(HEADER) tests/header_test.h
+build/host/header_c build/host/header_cc build/host/header_san build/host/header_small: $(HEADER)
 build/host/header_c build/host/header_small:
 	gcc -std=c11 $(WARN) $(C_SOURCES) -o $@
 build/host/header_cc:

@@ -1,17 +1,28 @@
 #!/bin/sh
 # Asks for what things here are made and run with, by the commands, headers and libraries themselves, and installs what is missing from Debian's
 # packages. Where that cannot be, one line says what is missing and which package has it.
+#
 # usage: needs.sh GROUP...
+#
 #   kit    the Rattle kit, and whether it is the one that kit.txt pins; it comes with no package
 #   host   what makes and runs the C hosts and their meetings with OpenSSH
-#   gate   what the gate takes beside that: a C++ compiler, and cargo, which is not installed here
+#   gate   what the gate takes beside that, cargo among it, which is not installed here
 #   cross  what makes and runs programs for other machines
+#
+# make calls it ahead of what needs it. It takes less than a second where nothing is missing, and half a minute where apt-get installs all of it. Exits 0, or 2 where
+# something is missing and where it is called wrongly.
 set -eu
+help() { sed -n '/^#!/d; /^#/!q; s/^# \{0,1\}//p' "$0"; }
+wrong() { help | grep '^usage: ' >&2; exit 2; }
+case ${1-} in -h | --help) help; exit ;; esac
+[ $# -gt 0 ] || wrong
+for group; do
+    case $group in kit | host | gate | cross) ;; *) wrong ;; esac
+done
 cd "$(dirname "$0")/.."
 log=build/needs.log
 not_to_be_run=/etc/ssh/sshd_not_to_be_run
 
-usage() { sed -n '2,/^set/s/^# \{0,1\}//p' "$0"; }
 say() { echo "needs: $*"; }
 give_up() { echo "needs: $*" >&2; exit 2; }
 
@@ -33,7 +44,7 @@ ask_for_kit() {
 things_of() { # GROUP
     case $1 in
     host) echo gcc make python3 libcrypto ssh ssh-keygen sshd ;;
-    gate) echo g++ cargo ;;
+    gate) echo g++ cargo cmake pkg-config groff ;;
     cross) echo qemu-aarch64 qemu-riscv64 qemu-arm aarch64-linux-gnu-gcc riscv64-linux-gnu-gcc arm-linux-gnueabihf-gcc ;;
     esac
 }
@@ -44,6 +55,8 @@ packages_of() { # THING
     libcrypto) echo libssl-dev ;;
     ssh | ssh-keygen) echo openssh-client ;;
     sshd) echo openssh-server ;;
+    pkg-config) echo pkgconf ;;
+    groff) echo groff-base ;;
     qemu-*) echo qemu-user ;;
     aarch64-linux-gnu-gcc) echo gcc-aarch64-linux-gnu libc6-dev-arm64-cross ;;
     riscv64-linux-gnu-gcc) echo gcc-riscv64-linux-gnu libc6-dev-riscv64-cross ;;
@@ -121,18 +134,12 @@ install_missing() {
 
 # ---- the groups asked for
 
-[ $# -gt 0 ] || { usage >&2; exit 2; }
 things=''
 for group; do
     case $group in
-    -h | --help) usage; exit ;;
-    kit) ;;
-    host | gate | cross) things="$things $(things_of "$group")" ;;
-    *) give_up "there is no group $group; there are: kit host gate cross" ;;
+    kit) ask_for_kit ;;
+    *) things="$things $(things_of "$group")" ;;
     esac
-done
-for group; do
-    [ "$group" != kit ] || ask_for_kit
 done
 [ -n "$things" ] || exit 0
 

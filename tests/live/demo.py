@@ -3,8 +3,9 @@
 
 usage: demo.py --dock PROGRAM --bench PROGRAM [--steps FILE] [--verbose]
 
-Starts sshd and ssh itself, with keys and files in a temporary folder. Exits 1 with one line at the first failure.
---steps: FILE gets each message and step; --verbose: they are printed too.
+Starts sshd and ssh itself, with keys and files in a temporary folder. --steps: FILE gets each message and step; --verbose: they are printed too.
+`make dock bench` makes the programs. It takes some ten seconds: one X in 65,536 begins as two of the meetings want it. Exits 0, 1 with one line at the first
+failure, 2 where it is called wrongly.
 """
 import argparse
 import base64
