@@ -1,6 +1,6 @@
 # `make` alone lists the targets: what stands behind ## on a rule's line, here and in files that are included.
-.PHONY: help demo test checks vectors kit needs cross lib bench dock c-host rust-host host host-test c-test rust-test script bench-test differ-test live-test \
-	same hybrids targets soak measure
+.PHONY: help demo test checks vectors kit needs cross lib bench dock c-host rust-host host host-test c-test rust-test script bench-test differ-test \
+	live-test same hybrids targets soak measure
 
 help:
 	@awk 'function show(name) { printf "  make %-14s %s\n", name, line[name] } \

@@ -6,8 +6,8 @@
 #
 # usage: lib.sh [TARGET...]
 #
-# `make lib` calls it. From nothing it takes some four minutes on two cores, where nothing changed less than a second. Exits 0, 1 where something is not
-# proved or not built, 2 where there is no kit or it is called wrongly.
+# `make lib` calls it. From nothing it takes some four minutes on two cores, where nothing changed less than a second. Exits 0, 1 where something is
+# not proved or not built, 2 where there is no kit or it is called wrongly.
 set -eu
 help() { sed -n '/^#!/d; /^#/!q; s/^# \{0,1\}//p' "$0"; }
 case ${1-} in -h | --help) help; exit ;; esac

@@ -9,8 +9,8 @@
 #   gate   what the gate takes beside that, cargo among it, which is not installed here
 #   cross  what makes and runs programs for other machines
 #
-# make calls it ahead of what needs it. It takes less than a second where nothing is missing, and half a minute where apt-get installs all of it. Exits 0, or 2 where
-# something is missing and where it is called wrongly.
+# make calls it ahead of what needs it. It takes less than a second where nothing is missing, and half a minute where apt-get installs all of it.
+# Exits 0, or 2 where something is missing and where it is called wrongly.
 set -eu
 help() { sed -n '/^#!/d; /^#/!q; s/^# \{0,1\}//p' "$0"; }
 wrong() { help | grep '^usage: ' >&2; exit 2; }
@@ -28,14 +28,15 @@ give_up() { echo "needs: $*" >&2; exit 2; }
 
 # ---- the kit
 
+look="README.md has where to look, under 'The kit'"
 ask_for_kit() {
-    command -v rt >/dev/null || give_up "no rt on PATH: it is the command of the Rattle kit, which proves and compiles the library; README.md has where to look, under 'The kit'"
+    command -v rt >/dev/null || give_up "no rt on PATH: it is the command of the Rattle kit, which proves and compiles the library; $look"
     pinned=$(cat kit.txt)
     here=$(rt version 2>&1) || give_up "the rt on PATH does not say its version: $(echo "$here" | head -n 1)"
     case $here in
     "$pinned") ;;
-    rattle*) say "this kit is '$here', and the proofs were made with '$pinned', the one in kit.txt: whether they hold with this one the prover itself decides" ;;
-    *) give_up "the rt on PATH is not the Rattle kit's: $(command -v rt); README.md has where to look, under 'The kit'" ;;
+    rattle*) say "this kit is '$here', and the proofs were made with '$pinned' (kit.txt): whether they hold with this one the prover itself decides" ;;
+    *) give_up "the rt on PATH is not the Rattle kit's: $(command -v rt); $look" ;;
     esac
 }
 
@@ -69,7 +70,8 @@ packages_of() { # THING
 makes() { # COMPILER HEADER WORDS...
     compiler=$1 header=$2
     shift 2
-    command -v "$compiler" >/dev/null && printf '#include <%s>\nint main(void) { return 0; }\n' "$header" | "$compiler" -x c - "$@" -o "$scratch" 2>/dev/null
+    command -v "$compiler" >/dev/null || return
+    printf '#include <%s>\nint main(void) { return 0; }\n' "$header" | "$compiler" -x c - "$@" -o "$scratch" 2>/dev/null
 }
 has() { # THING
     case $1 in
@@ -82,7 +84,7 @@ has() { # THING
     esac
 }
 
-# Puts what is missing into missing, said in words with its packages, the packages to install into packages, and into elsewhere what none of them has.
+# Puts what is missing into missing, said in words with its packages, the packages to install into packages, and what none of them has into elsewhere.
 ask() { # THING...
     missing='' packages='' elsewhere=''
     for thing; do

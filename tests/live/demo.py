@@ -4,8 +4,8 @@
 usage: demo.py --dock PROGRAM --bench PROGRAM [--steps FILE] [--verbose]
 
 Starts sshd and ssh itself, with keys and files in a temporary folder. --steps: FILE gets each message and step; --verbose: they are printed too.
-`make dock bench` makes the programs. It takes some ten seconds: one X in 65,536 begins as two of the meetings want it. Exits 0, 1 with one line at the first
-failure, 2 where it is called wrongly.
+`make dock bench` makes the programs. It takes some ten seconds: one X in 65,536 begins as two of the meetings want it. Exits 0, 1 with one line at
+the first failure, 2 where it is called wrongly.
 """
 import argparse
 import base64
@@ -27,8 +27,8 @@ from held import ROOT
 from peer import ed25519_holds
 from programs import METHODS, Dock, Failure, Programs, end_on_signals, later_exchanges, need
 
-WORDS = """Each line: direction, message, its length, the library's number for the step, the room filled so far. Behind NEWKEYS packets are encrypted and
-have a MAC, with keys that the library derived: their lengths are those of what was decrypted.
+WORDS = """Each line: direction, message, its length, the library's number for the step, the room filled so far. Behind NEWKEYS packets are encrypted
+and have a MAC, with keys that the library derived: their lengths are those of what was decrypted.
 """
 LETTERS = """X: the curve's shared secret. K: X as a number in its shortest form; in a hybrid, a hash of the KEM's secret and X.
 H: the hash of what both sides said and of K. The server signs it: the client accepts that only with the same K."""
@@ -124,10 +124,10 @@ def zeros(programs, dock, version, begins, kept):
     told.met += 1
     x, zero = f"{begins[:2]} {begins[2:]} ..", "00 " if kept else ""
     told.row("dock as server of ssh", f"X = {x}",
-             f"K = {zero}{begins[2:]} .., {length} bytes (the wrong way: {32 - kept}): the zero {'is kept ahead of a high bit' if kept else 'is dropped'}, and ssh "
-             "made the same H of it")
-    told.step(f"dock as server, {version} as client, {METHODS[1]}, keys drawn until X begins {begins}: ssh makes K for itself, and accepts our signature over H",
-              out + said)
+             f"K = {zero}{begins[2:]} .., {length} bytes (the wrong way: {32 - kept}): the zero is {'kept ahead of a high bit' if kept else 'dropped'}, "
+             "and ssh made the same H of it")
+    told.step(f"dock as server, {version} as client, {METHODS[1]}, keys drawn until X begins {begins}: ssh makes K for itself, and accepts our "
+              "signature over H", out + said)
     return told
 
 
@@ -146,10 +146,10 @@ def night(programs, dock, version):
     by_us = sum(each.by == "us" for each in later)
     told.met += 1 + len(later)
     told.row("dock as client of sshd", f"{1 + len(later)} exchanges",
-             f"a short night: new keys amid data, {by_us} times asked for by dock and {len(later) - by_us} by sshd, three curves in turn; {data[1]} bytes came "
-             "back as they went, and the session identifier stayed the first H")
-    told.step(f"dock as client, {version} as server, a short night: data go there and back, either side asks for new keys, and the identifier stays the first H",
-              "".join(line + "\n" for line in out.splitlines() if line.split()[0] in ("method", "H", "exchange", "again", "data")))
+             f"a short night: new keys amid data, {by_us} times asked for by dock and {len(later) - by_us} by sshd, three curves in turn; {data[1]} "
+             "bytes came back as they went, and the session identifier stayed the first H")
+    told.step(f"dock as client, {version} as server, a short night: data go there and back, either side asks for new keys, and the identifier stays "
+              "the first H", "".join(line + "\n" for line in out.splitlines() if line.split()[0] in ("method", "H", "exchange", "again", "data")))
     return told
 
 
@@ -159,7 +159,8 @@ def refused(programs, dock, version, port):
     code, out, err = dock.run("client", "127.0.0.1", port, "--known-hosts", other, "--host-keys", KEY, "--show")
     need(code == 1 and "number 18" in err, f"a wrong host key is not refused: {code} {err.strip()}")
     need(re.search(r"^   verdict .* number 18  room 0 of", out, re.M) and "keys to" not in out, "keys after a host key that is refused")
-    told.row("dock as client of sshd", "another host key known", "refused with number 18: no key is derived, the room is wiped, and sshd is told DISCONNECT")
+    told.row("dock as client of sshd", "another host key known",
+             "refused with number 18: no key is derived, the room is wiped, and sshd is told DISCONNECT")
     told.step(f"dock as client, {version} as server, with another host key in its known hosts", out + err)
     return told
 
@@ -170,15 +171,16 @@ HASHED = "V_C", "V_S", "I_C", "I_S", "K_S", "C", "S"
 
 
 def through_bench(bench, name):
-    """A captured exchange through the library as client and as server: its fields, K's length and H by the library, which are the same in both roles, and
-    what the bench answered, ahead of each state."""
+    """A captured exchange through the library as client and as server: its fields, K's length and H by the library, which are the same in both
+    roles, and what the bench answered, ahead of each state."""
     of, f = words(ROOT / "tests/captures" / f"{name}.txt"), capture(name)
     hexed = {field: data.hex() or "-" for field, data in f.items()}
     start = " ".join([of["method"], *(hexed[field] for field in HASHED[:4])])
     secret = f"secret G{len(f['X'])} {hexed['X']} {'d' if f['K_PQ'] else 'a'} {hexed['K_PQ']}"
     scripts = [
         ["room 00*14156", f"start 1 {start}", f"ownc {hexed['C']} 00*1670", f"reply {hexed['REPLY']}", f"{secret} - -", "verdict 1 1 00*71"],
-        ["room 00*14156", f"start 2 {start}", f"init {hexed['INIT']}", f"{secret} {hexed['K_S']} {hexed['S']}", f"sign {hexed['signature']} 00*5774 00*71"],
+        ["room 00*14156", f"start 2 {start}", f"init {hexed['INIT']}", f"{secret} {hexed['K_S']} {hexed['S']}",
+         f"sign {hexed['signature']} 00*5774 00*71"],
     ]
     found, said = set(), ""
     for lines in scripts:
@@ -206,14 +208,17 @@ def wrong_way(f, kept):
 
 
 def captured_zeros(bench):
-    told = Told()
-    for begins, kept, name in ZEROS:
+    told, begin = Told(), []
+    for _, kept, name in ZEROS:
         f, length, h, said = through_bench(bench, name)
         need(length == 31 + kept, f"{name}: K has {length} bytes")
         need(signed(f, bytes.fromhex(h)), f"{name}: sshd's signature over the library's H does not hold")
         need(not signed(f, wrong_way(f, kept)), f"{name}: sshd's signature holds over H the wrong way")
+        begin.append(f["X"][:2].hex(" ") + " ..")
         told.step(f"tests/captures/{name}.txt through the bench, as client and as server", said)
-    told.row("two captured from sshd", "the same two kinds of X", "sshd's signature holds over the library's H, and fails over H with K the wrong way")
+    told.row("two captured from sshd", f"X = {', '.join(begin)}",
+             "zeros: sshd's signature holds over the library's H, and fails over H with K the wrong way")
+    told.row("the same kinds, live", "one X in 65,536", "keys are drawn until X begins so, which takes some ten seconds")
     return told
 
 
@@ -221,8 +226,8 @@ def captured_hybrid(bench):
     told = Told()
     f, _, h, said = through_bench(bench, HYBRID)
     need(signed(f, bytes.fromhex(h)), f"{HYBRID}: sshd's signature over the library's H does not hold")
-    told.row("one captured from sshd", METHODS[9], f"a hybrid, through the library as client and as server: H {h[:8]}.. both times, and the signature over it of "
-             f"{said.splitlines()[0]} holds")
+    told.row("one captured from sshd", METHODS[9],
+             f"a hybrid, through the library as client and as server: H {h[:8]}.. both times, and the signature over it of {said.splitlines()[0]} holds")
     told.step(f"tests/captures/{HYBRID}.txt through the bench, as client and as server", said)
     return told
 
@@ -230,40 +235,46 @@ def captured_hybrid(bench):
 # ---- all of it
 
 def parts(programs, dock, bench, version, pool):
-    """The parts in order; drawing an X with zeros takes seconds, and the others go beside it."""
+    """The parts in order. Drawing an X with zeros takes seconds: the others go beside it."""
     programs.make_keys()
     drawn = [pool.submit(zeros, programs, dock, version, begins, kept) for begins, kept, _ in ZEROS]
     port = programs.sshd()
     yield as_client(programs, dock, version, port)
     yield as_server(programs, dock, version)
-    last = captured_zeros(bench), captured_hybrid(bench), night(programs, dock, version), refused(programs, dock, version, port)
+    yield captured_hybrid(bench)
+    yield night(programs, dock, version)
+    yield refused(programs, dock, version, port)
+    yield captured_zeros(bench)
     yield from (each.result() for each in drawn)
-    yield from last
+
+
+def show(rows):
+    for left, right in rows:
+        for n, line in enumerate(textwrap.wrap(right, WIDTH - LEFT, break_on_hyphens=False)):
+            print(f"{left if n == 0 else '':<{LEFT}}{line}", flush=True)
 
 
 def demo(programs, dock, bench, steps, verbose):
     version = programs.ssh_version().split(",")[0].strip()
-    print(f"The library in dock, a small host on OpenSSL, meets {version} over the loopback; drawing keys takes seconds, seldom half a minute.", flush=True)
+    begin = f"The library in dock, a small host on OpenSSL, meets {version} over the loopback.\n\n{LETTERS}\n"
+    steps.write(WORDS)
+    print(WORDS if verbose else begin, flush=True)
     told = []
-
-    def keep(text):
-        steps.write(text)
-        if verbose:
-            print(text, end="", flush=True)
-
-    keep("\n" + WORDS if verbose else WORDS)
     with concurrent.futures.ThreadPoolExecutor(len(ZEROS)) as pool:
         try:
             for each in parts(programs, dock, bench, version, pool):
                 told.append(each)
-                keep("".join(each.steps))
+                steps.write("".join(each.steps))
+                if verbose:
+                    print("".join(each.steps), end="", flush=True)
+                else:
+                    show(each.rows)
         except BaseException:
             programs.stop_all()  # what the pool waits for
             raise
-    print(f"\n{LETTERS}\n")
-    for left, right in (row for each in told for row in each.rows):
-        for n, line in enumerate(textwrap.wrap(right, WIDTH - LEFT, break_on_hyphens=False)):
-            print(f"{left if n == 0 else '':<{LEFT}}{line}")
+    if verbose:
+        print(f"\n{begin}")
+        show(row for each in told for row in each.rows)
     print(f"\n{sum(each.met for each in told)} exchanges with a real program, three captured ones and one refusal, all as they must be.")
 
 
