@@ -28,7 +28,7 @@ give_up() { echo "needs: $*" >&2; exit 2; }
 
 # ---- the kit
 
-look="README.md has where to look, under 'The kit'"
+look="README.md has more, under 'Rattle, the kit, and what is trusted'"
 ask_for_kit() {
     command -v rt >/dev/null || give_up "no rt on PATH: it is the command of the Rattle kit, which proves and compiles the library; $look"
     pinned=$(cat kit.txt)
