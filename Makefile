@@ -1,6 +1,12 @@
-# Two commands for a newcomer: `make demo` runs what there is, `make test` is the gate. `make lib` leaves the static library in build/.
-.PHONY: demo test vectors needs cross lib bench dock c-host rust-host host host-test c-test rust-test script bench-test differ-test live-test same \
-	hybrids targets soak measure
+# `make` alone lists the targets: what stands behind ## on a rule's line, here and in files that are included.
+.PHONY: help demo test checks vectors kit needs cross lib bench dock c-host rust-host host host-test c-test rust-test script bench-test differ-test \
+	live-test same hybrids targets soak measure
+
+help:
+	@awk 'function show(name) { printf "  make %-14s %s\n", name, line[name] } \
+		/^[a-z][a-z0-9-]*:.*## / { name = substr($$0, 1, index($$0, ":") - 1); line[name] = substr($$0, index($$0, "## ") + 3); order[++count] = name } \
+		END { print "For a newcomer:"; show("demo"); show("test"); print "\nFor work on it and with it:"; \
+			for (i = 1; i <= count; i++) if (order[i] !~ /^(demo|test)$$/) show(order[i]) }' $(MAKEFILE_LIST)
 
 WARN = -Wall -Wextra -Werror -pedantic -O2 -Iinclude
 CARGO = cargo --offline --quiet
@@ -13,12 +19,18 @@ SMALL = build/libcastulfrisa-small.a
 TARGETS := $(filter-out x86-64,$(shell sh host/clang.sh targets))
 SEED = 20261115
 
-demo: dock
-	@python3 tests/live/demo.py --dock build/dock
+# What is missing is said ahead of the proof, and once: a make within this one is told so by ASKED.
+demo: ## prove and build the library, and let a host on OpenSSL meet a real sshd and ssh (VERBOSE=1: step by step)
+	@sh tests/needs.sh kit host
+	@$(MAKE) --no-print-directory ASKED=yes dock bench
+	@python3 tests/live/demo.py --dock build/dock --bench build/bench --steps build/demo.txt $(if $(VERBOSE),--verbose)
 
 # The gate. Its last line is that of rt ci, printed where all else passed too.
-test:
+test: ## the gate: every proof from nothing, every edit that must be refused, then the compiled library (half an hour on two cores)
 	@sh tests/gate.sh
+
+# What the gate asks of what was proved.
+checks: host-test targets
 
 # What the programs read and what they must print, held to the captures, to published digests and keys, and to an account of the documents of its own.
 vectors:
@@ -27,71 +39,97 @@ vectors:
 	python3 tests/expect_sha2.py --check
 	python3 tests/expect_keys.py --check
 
-# The static library, for speed and for size: proved first (some five minutes from nothing), and left alone where nothing that it is made
+# Whether there is a kit, and which.
+kit:
+	@$(if $(ASKED),,sh tests/needs.sh kit)
+
+# The static library, for speed and for size: proved first (some four minutes from nothing), and left alone where nothing that it is made
 # of changed. TARGET names another machine to build it for, one of TARGETS or several; those archives go into build/TARGET/.
-lib:
+lib: kit ## the static library in build/, proved first; with TARGET=aarch64 for that machine too
 	@sh host/lib.sh $(sort x86-64 $(TARGET))
 
+# lib alone knows whether they changed, and leaves them as old as they are where they did not
+$(LIB) $(SMALL): lib
+	@:
+
 # Whether the library for speed is byte for byte what rt makes by itself. It proves the last crate again, in some 20 seconds.
-same: lib
+same: lib ## whether the library is byte for byte what rt makes by itself
 	@rt staticlib boundary > build/staticlib.log 2>&1 || { tail -n 20 build/staticlib.log; exit 1; }
 	cmp target/staticlib/libboundary.a $(LIB)
 
-# Debian's packages, installed where they are missing: what a host on OpenSSL and its tests need, and what makes and runs programs for other
-# machines.
-PACKAGES = libssl-dev openssh-client openssh-server
-CROSS = qemu-user gcc-aarch64-linux-gnu libc6-dev-arm64-cross gcc-riscv64-linux-gnu libc6-dev-riscv64-cross gcc-arm-linux-gnueabihf libc6-dev-armhf-cross
-APT = DEBIAN_FRONTEND=noninteractive apt-get install -y -qq --no-install-recommends
-installed = dpkg -s $(1) > /dev/null 2>&1 || $(APT) $(1) > /dev/null || { apt-get update -qq && $(APT) $(1) > /dev/null; }
-needs:
-	@$(call installed,$(PACKAGES))
-# behind the others: apt-get runs once at a time
-cross: needs
-	@$(call installed,$(CROSS))
-
-bench: lib
-	gcc -std=c11 $(WARN) host/bench.c $(LIB) -o build/bench
-
-dock: lib needs
-	gcc -std=c11 $(WARN) host/dock/*.c $(LIB) -lcrypto -o build/dock
+# Debian's packages, installed where what they have is missing: what a host on OpenSSL and its tests need, and what makes and runs programs for other
+# machines. Cross behind the others: apt-get runs once at a time.
+needs: ## install what is missing of Debian's packages for the hosts and their tests
+	@$(if $(ASKED),,sh tests/needs.sh host)
+cross: needs ## the same for programs of other machines: cross compilers and qemu
+	@$(if $(ASKED),,sh tests/needs.sh cross)
 
 # The C programs, plain and under the sanitizers, and with the library for size. What the stack is left with depends on the level of
 # optimization, and on whether memcpy and memset are looked up ahead or at their first call.
 SAN = -fsanitize=address,undefined -fno-sanitize-recover=all -g
 HEADER = tests/header_test.c tests/header_steps.c tests/header_32.c
+DOCK = $(wildcard host/dock/*.c)
 LAZY = -Wl,-z,lazy -DCASTULFRISA_STACK=8192
 # dock with keys that are wrong, for the live test alone
 WRAPPED = castulfrisa_derive castulfrisa_take_secret castulfrisa_verdict castulfrisa_sign
-WRONG_KEYS = tests/live/wrong_keys.c $(WRAPPED:%=-Wl,--wrap=%)
-c-host: bench dock
-	@mkdir -p build/host
-	gcc -std=c11 $(WARN) $(HEADER) $(LIB) -o build/host/header_c
-	g++ -std=c++17 $(WARN) -x c++ $(HEADER) -x none $(LIB) -o build/host/header_cc
-	gcc -std=c11 $(WARN) -O0 -Wl,-z,now tests/stack_test.c $(LIB) -o build/host/stack_0
-	gcc -std=c11 $(WARN) -Wl,-z,now tests/stack_test.c $(LIB) -o build/host/stack_2
-	gcc -std=c11 $(WARN) $(LAZY) tests/stack_test.c $(LIB) -o build/host/stack_lazy
-	gcc -std=c99 $(WARN) host/example.c $(LIB) -lcrypto -o build/host/example
-	gcc -std=c11 $(WARN) $(SAN) $(HEADER) $(LIB) -o build/host/header_san
-	gcc -std=c99 $(WARN) $(SAN) host/example.c $(LIB) -lcrypto -o build/host/example_san
-	gcc -std=c11 $(WARN) $(SAN) host/bench.c $(LIB) -o build/host/bench_san
-	gcc -std=c11 $(WARN) $(SAN) host/dock/*.c $(LIB) -lcrypto -o build/host/dock_san
-	gcc -std=c11 $(WARN) host/dock/*.c $(WRONG_KEYS) $(LIB) -lcrypto -o build/host/dock_wrong
-	gcc -std=c11 $(WARN) $(HEADER) $(SMALL) -o build/host/header_small
-	gcc -std=c11 $(WARN) -O0 -Wl,-z,now tests/stack_test.c $(SMALL) -o build/host/stack_small_0
-	gcc -std=c11 $(WARN) -Wl,-z,now tests/stack_test.c $(SMALL) -o build/host/stack_small_2
-	gcc -std=c11 $(WARN) $(LAZY) tests/stack_test.c $(SMALL) -o build/host/stack_small_lazy
-	gcc -std=c99 $(WARN) host/example.c $(SMALL) -lcrypto -o build/host/example_small
-	gcc -std=c11 $(WARN) $(SAN) host/bench.c $(SMALL) -o build/host/bench_small
+
+C_PLAIN = $(addprefix build/host/,header_c header_cc stack_0 stack_2 stack_lazy example header_san example_san bench_san dock_san dock_wrong)
+C_SMALL = $(addprefix build/host/,header_small stack_small_0 stack_small_2 stack_small_lazy example_small bench_small)
+ON_OPENSSL = build/dock $(filter %/example %/example_san %/example_small %/dock_san %/dock_wrong,$(C_PLAIN) $(C_SMALL))
+C_SOURCES = $(filter %.c,$^) $(filter %.a,$^)
+
+bench: build/bench ## a program that answers scripts of calls
+	@:
+dock: needs build/dock ## a host on OpenSSL: an SSH client and server that exchange keys
+	@:
+c-host: needs build/bench build/dock $(C_PLAIN) $(C_SMALL)
+
+build/bench build/dock $(C_PLAIN): $(LIB)
+$(C_SMALL): $(SMALL)
+build/bench build/dock $(C_PLAIN) $(C_SMALL): include/castulfrisa.h Makefile | build/host
+$(C_PLAIN) $(C_SMALL): $(wildcard tests/*.h)
+$(ON_OPENSSL): | needs
+build/host:
+	@mkdir -p $@
+
+build/bench: host/bench.c
+	gcc -std=c11 $(WARN) $(C_SOURCES) -o $@
+build/host/bench_san build/host/bench_small: host/bench.c
+	gcc -std=c11 $(WARN) $(SAN) $(C_SOURCES) -o $@
+build/dock build/host/dock_san build/host/dock_wrong: $(DOCK) host/dock/dock.h
+build/dock:
+	gcc -std=c11 $(WARN) $(C_SOURCES) -lcrypto -o $@
+build/host/dock_san:
+	gcc -std=c11 $(WARN) $(SAN) $(C_SOURCES) -lcrypto -o $@
+build/host/dock_wrong: tests/live/wrong_keys.c
+	gcc -std=c11 $(WARN) $(C_SOURCES) $(WRAPPED:%=-Wl,--wrap=%) -lcrypto -o $@
+build/host/header_c build/host/header_cc build/host/header_san build/host/header_small: $(HEADER)
+build/host/header_c build/host/header_small:
+	gcc -std=c11 $(WARN) $(C_SOURCES) -o $@
+build/host/header_cc:
+	g++ -std=c++17 $(WARN) -x c++ $(filter %.c,$^) -x none $(filter %.a,$^) -o $@
+build/host/header_san:
+	gcc -std=c11 $(WARN) $(SAN) $(C_SOURCES) -o $@
+build/host/stack_0 build/host/stack_small_0: tests/stack_test.c
+	gcc -std=c11 $(WARN) -O0 -Wl,-z,now $(C_SOURCES) -o $@
+build/host/stack_2 build/host/stack_small_2: tests/stack_test.c
+	gcc -std=c11 $(WARN) -Wl,-z,now $(C_SOURCES) -o $@
+build/host/stack_lazy build/host/stack_small_lazy: tests/stack_test.c
+	gcc -std=c11 $(WARN) $(LAZY) $(C_SOURCES) -o $@
+build/host/example build/host/example_small: host/example.c
+	gcc -std=c99 $(WARN) $(C_SOURCES) -lcrypto -o $@
+build/host/example_san: host/example.c
+	gcc -std=c99 $(WARN) $(SAN) $(C_SOURCES) -lcrypto -o $@
 
 # The Rust side, and what of it compares, with the library for size.
-rust-host: lib
+rust-host: lib ## the Rust wrapper, the plain implementation and what compares them
 	cd host && $(CARGO) build --release && $(CARGO) build --release --examples
 	cd host && $(WITH_SMALL) $(CARGO) build --release -p differ
 
 host: c-host rust-host
 
-# The compiled library: its header, its hosts, and every answer against the plain implementation of document 01.
-host-test: c-test rust-test bench-test differ-test live-test
+# The compiled library: its header, its hosts, and every answer against the plain implementation of the specification.
+host-test: c-test rust-test bench-test differ-test live-test ## the compiled library: header, hosts, and every answer against plain Rust
 
 # The header also for 32 bits; and a result that is ignored must be refused: for that alone, and of each of the header's entries.
 c-test: c-host
@@ -124,11 +162,11 @@ bench-test: c-host script
 		$$bench < build/host/script > build/host/ours && cmp build/host/ours build/host/answers || exit 1; done
 	@echo "bench: $$(wc -l < build/host/answers) answers as the plain implementation gives them, for speed and for size, also under the sanitizers"
 
-differ-test: rust-host
+differ-test: rust-host ## the library against plain Rust, by random calls
 	$(RUST)/differ --seed $(SEED)
 	$(RUST_SMALL)/differ --seed $(SEED) --lists 100000 --rounds 30000 --hashes 30000
 
-live-test: c-host
+live-test: c-host ## dock against OpenSSH and hostile peers
 	python3 tests/live/live.py --dock build/dock --dock-asan build/host/dock_san --dock-wrong build/host/dock_wrong
 
 # Methods 7 to 9 live, on demand: Debian 12's libcrypto has no ML-KEM, so trixie's is fetched from Debian's archive, with its OpenSSH and PuTTY, and libssh
@@ -136,29 +174,29 @@ live-test: c-host
 HYBRIDS = build/hybrids
 MULTIARCH = $(shell gcc -print-multiarch)
 NEWER = -Wl,--allow-shlib-undefined
-hybrids: lib needs
+hybrids: needs lib ## methods 7 to 9 live, with newer programs of Debian's, fetched and unpacked into build/
 	@sh tests/suite.sh trixie $(HYBRIDS)/trixie openssh-server openssh-client putty-tools libssl-dev
 	@sh tests/suite.sh forky $(HYBRIDS)/forky libssh-dev
-	gcc -std=c11 $(WARN) -isystem $(HYBRIDS)/trixie/usr/include -isystem $(HYBRIDS)/trixie/usr/include/$(MULTIARCH) host/dock/*.c $(LIB) \
+	gcc -std=c11 $(WARN) -isystem $(HYBRIDS)/trixie/usr/include -isystem $(HYBRIDS)/trixie/usr/include/$(MULTIARCH) $(DOCK) $(LIB) \
 		$(HYBRIDS)/trixie/usr/lib/$(MULTIARCH)/libcrypto.so $(NEWER) -o $(HYBRIDS)/dock
 	gcc -std=c11 $(WARN) -idirafter $(HYBRIDS)/forky/usr/include tests/live/libssh_peer.c $(HYBRIDS)/forky/usr/lib/$(MULTIARCH)/libssh.so $(NEWER) \
 		-o $(HYBRIDS)/libssh_peer
 	python3 tests/live/hybrids.py --dock $(HYBRIDS)/dock --suite $(HYBRIDS)/trixie --libssh $(HYBRIDS)/forky --peer $(HYBRIDS)/libssh_peer
 
-# The library for other machines, under qemu: header, stack, the script, document 01's examples and the captures, and what it costs there.
-targets: cross script
+# The library for other machines, under qemu: header, stack, the script, the specification's examples and the captures, and what it costs there.
+targets: cross script ## the library for other machines, under qemu
 	@sh host/lib.sh $(TARGETS)
 	python3 tests/targets.py build/host/script build/host/answers
 
 # Longer runs: exchanges with a real sshd, and many in one connection with sshd and ssh; and the library against the plain implementation, with another
 # seed each time.
-soak: host
+soak: host ## longer runs with sshd and ssh, and against plain Rust
 	python3 tests/live/soak.py --dock build/dock --count 2000 --later 2000
 	$(RUST)/differ --seed $$(date +%s) --lists 20000000 --rounds 4000000 --hashes 4000000 --progress
 	$(RUST_SMALL)/differ --seed $$(date +%s) --lists 2000000 --rounds 400000 --hashes 400000 --progress
 
 # docs/MEASUREMENTS.md has what this printed. Archives for other machines count where they were made.
-measure: rust-host
+measure: rust-host ## print the figures of docs/MEASUREMENTS.md
 	@sh host/lib.sh x86-64 $(patsubst build/%/libcastulfrisa.a,%,$(wildcard build/*/libcastulfrisa.a))
 	python3 tests/measure.py $(RUST)/timing $(RUST_SMALL)/timing
 

@@ -1,13 +1,21 @@
 #!/bin/sh
 # The gate: the programs' inputs and outputs, the layout, rt ci (every crate from nothing, every edit that must be refused, every program),
 # whether each wrong program was refused where it is wrong, then the library that was proved, its hosts, and the library for other machines. The
-# last line is that of rt ci, and it stands there only where all passed.
+# last line is that of rt ci, and it stands there only where all passed. What is missing is said ahead of all that.
+#
+# usage: gate.sh
+#
+# `make test` calls it. It takes half an hour on two cores. Exits 0 where all passed, 1 where something did not, 2 where something is missing.
 set -eu
+help() { sed -n '/^#!/d; /^#/!q; s/^# \{0,1\}//p' "$0"; }
+case ${1-} in -h | --help) help; exit ;; esac
+[ $# -eq 0 ] || { help | grep '^usage: ' >&2; exit 2; }
 cd "$(dirname "$0")/.."
 mkdir -p build
-make="make --no-print-directory"
+make="make --no-print-directory ASKED=yes"
 
-$make needs cross vectors
+sh tests/needs.sh kit host gate cross
+$make vectors
 rt fmt --check
 
 # rt waits for the last of each batch of RT_JOBS: three to a core keep the cores busy, at most 1.6 GB each. build/ci.log keeps what rt
@@ -21,7 +29,7 @@ python3 tests/refused.py || { echo "gate: a wrong program was not refused where 
 # The library anew, from the crates that rt ci has proved.
 rm -rf build/checked build/checked.key
 find build -name '*.a.key' -delete
-$make -j2 --output-sync=target host-test targets || { echo "gate: the host tests failed"; exit 1; }
+$make -j2 --output-sync=target checks || { echo "gate: the host tests failed"; exit 1; }
 
 case $verdict in
 *' passed, 0 failed') echo "$verdict" ;;
