@@ -1,5 +1,5 @@
 # `make` alone lists the targets: what stands behind ## on a rule's line, here and in files that are included.
-.PHONY: help demo test checks vectors kit needs cross lib bench dock c-host rust-host host host-test c-test rust-test script bench-test differ-test \
+.PHONY: help demo test checks vectors kit needs cross lib bench dock c-host rust-host host host-test c-test rust-test script bench-test help-test differ-test \
 	live-test same hybrids targets soak measure
 
 help:
@@ -29,15 +29,18 @@ demo: ## prove and build the library, and let a host on OpenSSL meet a real sshd
 test: ## the gate: every proof from nothing, every edit that must be refused, then the compiled library (half an hour on two cores)
 	@sh tests/gate.sh
 
-# What the gate asks of what was proved.
-checks: host-test targets
+# What the gate asks of what was proved. Packages behind the other machines' archives: it packs those that it finds whole.
+checks: host-test targets help-test package-test
 
-# What the programs read and what they must print, held to the captures, to published digests and keys, and to an account of the documents of its own.
-vectors:
+# What the programs read and what they must print, held to the captures, to published digests and keys, and to an account of the specification of its own;
+# the pictures, to the tables of the code; and what cites the specification, to its rules.
+vectors: ## what programs print, the pictures, and the specification's numbers
 	python3 tests/expect_views.py --check
 	python3 tests/expect_in_place.py --check
 	python3 tests/expect_sha2.py --check
 	python3 tests/expect_keys.py --check
+	python3 docs/draw.py --check
+	python3 tests/cited.py
 
 # Whether there is a kit, and which.
 kit:
@@ -158,9 +161,15 @@ script: rust-host
 bench-test: c-host script
 	python3 tests/bench_test.py build/bench
 	python3 tests/bench_test.py build/host/bench_small
+	python3 tests/worked_test.py build/bench
+	python3 tests/worked_test.py build/host/bench_small
 	for bench in build/bench build/host/bench_san build/host/bench_small; do \
 		$$bench < build/host/script > build/host/ours && cmp build/host/ours build/host/answers || exit 1; done
 	@echo "bench: $$(wc -l < build/host/answers) answers as the plain implementation gives them, for speed and for size, also under the sanitizers"
+
+# Every test says how it is called.
+help-test: host
+	python3 tests/help_test.py
 
 differ-test: rust-host ## the library against plain Rust, by random calls
 	$(RUST)/differ --seed $(SEED)

@@ -77,7 +77,7 @@ fn run(a: &Asked) -> Result<bool, String> {
         return hashes::list(a.seed, i, &mut lent_to_hashes, &mut tally, &mut tried).map(|()| true);
     }
     let tell = |what: &str, i: u64, of: u64| {
-        if a.progress && (i + 1).is_multiple_of(100_000) {
+        if a.progress && (i + 1) % 100_000 == 0 {
             println!("{} of {} {}", i + 1, of, what);
         }
     };

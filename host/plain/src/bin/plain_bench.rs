@@ -445,7 +445,7 @@ fn hex(token: &str) -> Result<Vec<u8>, Bad> {
     if token == "-" {
         return Ok(vec![]);
     }
-    if token.is_empty() || !token.len().is_multiple_of(2) {
+    if token.is_empty() || token.len() % 2 != 0 {
         return Err("bad hex");
     }
     token.as_bytes().chunks_exact(2).map(|pair| Ok(digit(pair[0])? * 16 + digit(pair[1])?)).collect()
