@@ -26,7 +26,7 @@ enum message {
     MESSAGE_KEXINIT = 20,
     MESSAGE_NEWKEYS = 21,
     MESSAGES_OF_METHOD = 30,    /* from here on those of the exchange's method, which the core judges, */
-    MESSAGES_OF_TRANSPORT = 50, /* and ahead of this all that an exchange may have in it */
+    MESSAGES_OF_TRANSPORT = 50, /* up to here, where the transport's end */
     USERAUTH_REQUEST = 50,
     USERAUTH_FAILURE = 51,
     USERAUTH_SUCCESS = 52,

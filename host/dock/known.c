@@ -159,12 +159,13 @@ static const char *take_line(struct known_hosts *known, char *line, const struct
     if (names[0] == '@') return "it has two markers";
 
     /* A name without a port speaks for port 22 alone; but what is revoked by it is revoked at every port. */
-    bool speak, at_any_port;
-    if (!judge_names(names, host->with_port, &speak) || !judge_names(names, host->plain, &at_any_port)) return "its hashed name cannot be read";
+    bool speak, at_any_port = false;
+    if (!judge_names(names, host->with_port, &speak) || (revoked && !judge_names(names, host->plain, &at_any_port)))
+        return "its hashed name cannot be read";
     struct known_key key = {.blob = malloc(strlen(text)), .revoked = revoked};
     if (key.blob == NULL) return no_memory;
     const bool good = read_key(type, text, &key);
-    if (good && (speak || (revoked && at_any_port))) return keep(known, key);
+    if (good && (speak || at_any_port)) return keep(known, key);
     free(key.blob);
     return good ? NULL : "its key is not well-formed, or of another type than it says";
 }
@@ -235,8 +236,9 @@ enum known known_host(const struct known_hosts *known, span host_key)
 bool known_type(const struct known_hosts *known, const char *type)
 {
     for (size_t i = 0; i < known->count; i++) {
-        const span blob = {known->keys[i].blob, known->keys[i].len};
-        if (span_is(type_of(blob), type) && known_host(known, blob) == KNOWN_YES) return true;
+        const struct known_key *key = &known->keys[i];
+        const span blob = {key->blob, key->len};
+        if (!key->revoked && span_is(type_of(blob), type) && known_host(known, blob) == KNOWN_YES) return true;
     }
     return false;
 }

@@ -301,7 +301,7 @@ static void show_debug(const struct link *l, span payload)
 }
 
 /* What may come at any time and is for nobody; of a number that nobody knows the peer is told so (RFC 4253, 11.4). */
-static bool pass_over(struct link *l, uint8_t message, span payload)
+static bool pass_by(struct link *l, uint8_t message, span payload)
 {
     const long len = (long)payload.len;
     switch (message) {
@@ -337,24 +337,23 @@ bool link_take_aside(struct link *l, span *payload)
     return true;
 }
 
-/* Up to the first NEWKEYS, where nothing is sealed, an exchange has only its own in it: whatever is of no exchange is then refused by who waits for
-   a message of it. */
+/* Up to the first NEWKEYS nothing is sealed, and what is not the transport's goes to who waits for a message of the exchange, and is refused there. */
 bool link_receive(struct link *l, span *payload)
 {
     if (!l->exchanging && link_take_aside(l, payload)) return true;
     while (receive_packet(l, payload)) {
         const uint8_t message = payload->len > 0 ? payload->at[0] : 0;
-        const bool of_exchange = message < MESSAGES_OF_TRANSPORT, sealed = l->coming.on;
+        const bool of_transport = message < MESSAGES_OF_TRANSPORT, sealed = l->coming.on;
         const bool word = message == MESSAGE_IGNORE || message == MESSAGE_DEBUG || message == MESSAGE_UNIMPLEMENTED;
-        if (!of_exchange && !sealed) return true;
+        if (!of_transport && !sealed) return true;
         if (message == MESSAGE_DISCONNECT) {
             show(l->show, "<-", "DISCONNECT", (long)payload->len, -1, -1);
             return disconnected(l, *payload);
         }
         if (word || !is_recognized(message)) {
             if (l->strict && !sealed) return peer_fault(l, "message %u within a strict key exchange", (unsigned)message);
-            if (!pass_over(l, message, *payload)) return false;
-        } else if (of_exchange || !l->exchanging) return true;
+            if (!pass_by(l, message, *payload)) return false;
+        } else if (of_transport || !l->exchanging) return true;
         else if (!set_aside(l, *payload)) return false;
     }
     return false;

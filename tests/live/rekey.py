@@ -369,15 +369,18 @@ def all_back(p, sent, back, text):
 
 
 def set_aside(p, rng):
-    """Messages that are no exchange's come behind this side's KEXINIT: ahead of INIT or REPLY, and ahead of NEWKEYS. They are taken in their order, when
-    NEWKEYS has gone by; but a number that nobody knows is answered at once."""
+    """Messages that are no exchange's come behind this side's KEXINIT: ahead of INIT or REPLY, and of a wrong guess, and ahead of NEWKEYS. They are taken in
+    their order, when NEWKEYS has gone by; but a number that nobody knows is answered at once."""
     begun(p, rng.turn % 2 == 0)
     sent = logged_in(p)
     theirs = their_kexinit(p)
     parts = [sent[:100], sent[100:120], sent[120:250]] if p.serves else [b"set", b" ", b"aside"]
     first, second, third = (data(0, part) for part in parts)
     no, request = bytes([GLOBAL_NO]), bytes([GLOBAL]) + string(b"any") + b"\1"
-    kexinits(p, theirs=theirs, behind=[no, first])
+    if rng.turn % 2:
+        kexinits(p, kexinit(SECOND_FIRST, b"ssh-ed25519", True), [no, b"\x22" + bytes(50), first], theirs)
+    else:
+        kexinits(p, theirs=theirs, behind=[no, first])
     say(p, bytes([200]), second)
     need(p.read() == unimplemented(p.closes.sequence - 2), "no UNIMPLEMENTED for the message that nobody knows")
     message(p, [no])

@@ -170,12 +170,12 @@ def closes(p, rng):
 # ---- within a strict key exchange
 
 def words_in_strict(p, rng):
-    """Ahead of KEXINIT, of INIT or REPLY, and of NEWKEYS; and likewise a message that nobody knows."""
-    seals, place = ((b"aes128-ctr", rng.choice(MACS)),) * 2, rng.turn % 3
-    word = words(rng) if rng.turn // 3 % 2 else bytes([rng.choice(UNKNOWN)])
+    """Ahead of KEXINIT, of INIT or REPLY, and of NEWKEYS; and likewise a message that nobody knows, or one that is not the transport's."""
+    seals, place, kind = ((b"aes128-ctr", rng.choice(MACS)),) * 2, rng.turn % 3, rng.turn // 3 % 3
+    word = (words(rng), bytes([rng.choice(UNKNOWN)]), bytes([rng.choice([50, 82, 94, 255])]))[kind]
     own = kexinit(KEX + p.strict_name, b"ssh-ed25519", seals=seals)
     if place == 0:
-        p.must = FAULT, "not the first packet of a strict key exchange"
+        p.must = FAULT, 11 if kind == 2 else "not the first packet of a strict key exchange"
         p.send(OWN + b"\r\n" + packet(word) + packet(own))
         p.version()
         p.read()
@@ -186,6 +186,8 @@ def words_in_strict(p, rng):
         p.answer()
         p.seal(False, True, seals)
     p.must = FAULT, f"message {word[0]} within a strict key exchange"
+    if kind == 2:
+        p.must = FAULT, 11 if place == 1 else "where NEWKEYS is due"
     p.send(packet(word))
 
 
@@ -194,5 +196,5 @@ SEALED = [
     (5, "counted otherwise", behind(counted_otherwise)), (4, "sent twice", behind(sent_twice)), (4, "left out", behind(left_out)),
     (6, "other keys", behind(other_keys)), (4, "in the clear", behind(in_the_clear)), (11, "packet length", behind(bad_length)),
     (7, "padding", behind(bad_padding)), (12, "not due", behind(not_due)), (5, "another service", behind(other_service)),
-    (4, "DISCONNECT", behind(disconnects)), (8, "early close", behind(closes)), (12, "words in a strict exchange", words_in_strict),
+    (4, "DISCONNECT", behind(disconnects)), (8, "early close", behind(closes)), (9, "words in a strict exchange", words_in_strict),
 ]
