@@ -24,18 +24,18 @@ SHOWN_EVERY = 250
 
 
 def exchange(dock, port, known, method):
-    options = "--known-hosts", known, "--methods", METHODS[method], "--host-keys", "ssh-ed25519"
+    options = "--known-hosts", known, "--methods", METHODS[method], "--host-keys", "ssh-ed25519", "--show-x"
     code, out, err = dock.run("client", "127.0.0.1", port, *options)
     need(code == 0 and err == "", f"method {method}: exit {code}: {err.strip()}")
     found = results(out)
-    need(found["method"] == f"{method} {METHODS[method]}" and found["known"] == "yes", "other results:", out)
+    need(found["method"] == f"{method} {METHODS[method]}" and found["known"] == "yes" and "X begins" in found, "other results:", out)
     return method, bytes.fromhex(found["X begins"])
 
 
 def soak(programs, dock, count, workers):
     programs.make_keys()
     port = programs.sshd(["LogLevel ERROR"])
-    known = programs.write("known_hosts", f"[127.0.0.1]:{port} {programs.public('ssh-ed25519')}\n")
+    known = programs.known(port, "ssh-ed25519")
     seen, began = collections.Counter(), time.monotonic()
 
     def line(done):
