@@ -74,6 +74,7 @@ def lines_that_do_not(at, port, key, rsa):
     yield f"{hashed(AT)} {key}\n", missing
     yield f"{hashed(at)[:-5]}AAAA= {key}\n", missing
     yield f"{at} {rsa}\n", missing
+    yield f"@revoked {at} {other}\n", missing
     yield f"{at} {other}\n", differs
     yield f"{hashed(at)} {other}\n{AT} {key}\n", differs
     yield f"@revoked {at} {key}\n", revoked
