@@ -317,7 +317,7 @@ static bool pass_by(struct link *l, uint8_t message, span payload)
     return answer_unimplemented(l);
 }
 
-/* Some peers send on behind their KEXINIT what was asked of them before (RFC 4253, 7.1, forbids it): the core is not handed it, and it is not lost. */
+/* Some peers send data and answers also behind their KEXINIT, which RFC 4253, 7.1, forbids: the core is not handed them, and they are not lost. */
 static bool set_aside(struct link *l, span payload)
 {
     struct blob b = {l->aside, sizeof l->aside, l->aside_end, false};
@@ -337,7 +337,7 @@ bool link_take_aside(struct link *l, span *payload)
     return true;
 }
 
-/* Up to the first NEWKEYS nothing is sealed, and what is not the transport's goes to who waits for a message of the exchange, and is refused there. */
+/* Up to the first NEWKEYS nothing is sealed: what is not the transport's goes to who waits for a message of the exchange, and is refused there. */
 bool link_receive(struct link *l, span *payload)
 {
     if (!l->exchanging && link_take_aside(l, payload)) return true;

@@ -8,7 +8,8 @@ if __name__ == "__main__":
 import socket
 
 from hostile import KEX, OWN, STRICT, Turn, against_client, against_server, init
-from peer import ACCEPT, DEBUG, IGNORE, NEWKEYS, SEALS, UNIMPLEMENTED, UNKNOWN, UNKNOWN_ABOVE, disconnect, kexinit, packet, service, string, unimplemented
+from peer import (ACCEPT, DEBUG, IGNORE, NEWKEYS, SEALS, UNIMPLEMENTED, UNKNOWN, UNKNOWN_ABOVE, disconnect, kexinit, packet, service, string,
+                  unimplemented)
 from programs import Failure, need, unwarned
 from rekey import kexinits, message, new_keys, say
 
@@ -18,7 +19,8 @@ DEBUG_WORDS = bytes([DEBUG, 1]) + string(TEXT) + string(b"")
 WORDS = [bytes([IGNORE]) + string(b"words"), DEBUG_WORDS, bytes([UNIMPLEMENTED]) + bytes(4)]
 # cut at every place, with another length than there are bytes, and with bytes behind them
 ILL_FORMED = [word[:n] for word in (WORDS[0], bytes([DEBUG, 1]) + string(b"text") + string(b""), WORDS[2]) for n in range(1, len(word))]
-ILL_FORMED += [word + b"\0" for word in WORDS] + [bytes([DEBUG, 1]) + b"\xff" * 4 + b"text", bytes([IGNORE]) + b"\xff" * 4, bytes([DEBUG, 2]) + string(b"x" * 9000)]
+ILL_FORMED += [word + b"\0" for word in WORDS]
+ILL_FORMED += [bytes([DEBUG, 1]) + b"\xff" * 4 + b"text", bytes([IGNORE]) + b"\xff" * 4, bytes([DEBUG, 2]) + string(b"x" * 9000)]
 
 
 def clear(p, *payloads):
@@ -45,7 +47,7 @@ def unknown(*numbers):
 
 
 def first_exchange(p, strict_name=b""):
-    """With all that may come between, which a strict one would not take."""
+    """With all that may come in between, which a strict one would not take."""
     own = kexinit(KEX + strict_name, b"ssh-ed25519")
     p.send(OWN + b"\r\n")
     v = p.version()

@@ -348,8 +348,8 @@ def under_way(p, rng):
 
 
 def all_back(p, sent, back, text):
-    """The answer to the one request, then the rest of the data and the end of the channel. back: how many of dock's bytes it has again; text: this side's, which
-    dock is to send back."""
+    """The answer to the one request, then the rest of the data and the end of the channel. back: how many of dock's bytes it has again; text: this
+    side's, which dock is to send back."""
     need(p.read() == bytes([GLOBAL_NO]), "no answer to the request behind NEWKEYS")
     if p.serves:
         sent += b"" if len(sent) == 600 else take_string(p.read()[5:])[0]
@@ -369,8 +369,8 @@ def all_back(p, sent, back, text):
 
 
 def set_aside(p, rng):
-    """Messages that are no exchange's come behind this side's KEXINIT: ahead of INIT or REPLY, and of a wrong guess, and ahead of NEWKEYS. They are taken in
-    their order, when NEWKEYS has gone by; but a number that nobody knows is answered at once."""
+    """Messages that are no exchange's come behind this side's KEXINIT: ahead of INIT or REPLY, and of a wrong guess, and ahead of NEWKEYS. They are
+    taken in their order, when NEWKEYS has gone by; but a number that nobody knows is answered at once."""
     begun(p, rng.turn % 2 == 0)
     sent = logged_in(p)
     theirs = their_kexinit(p)
@@ -414,7 +414,8 @@ EXACT = [
     ("strict too late", strict_too_late), ("wrong guess", guessed(SECOND_FIRST, b"\x22" + bytes(50))), ("right guess", guessed_right),
     ("dock asks", dock_asks, "--rekey", 2), ("both ask", both_ask, "--rekey", 1),
     ("under way, strict", under_way, "--rekey", 1), ("under way", under_way, "--rekey", 1),
-    ("set aside, strict", set_aside, "--rekey", 1), ("set aside", set_aside, "--rekey", 1), ("set aside, as much as may be", set_aside_most, "--rekey", 1),
+    ("set aside, strict", set_aside, "--rekey", 1), ("set aside", set_aside, "--rekey", 1),
+    ("set aside, as much as may be", set_aside_most, "--rekey", 1),
 ]
 FLOWING = under_way, set_aside, set_aside_most
 
@@ -573,7 +574,7 @@ def between_data(p, rng):
     not_due = PROTOCOL_ERROR, "is not well-formed or not due"
     payloads, p.must = rng.case([
         ([own, data(0, b"data"), own], (FAULT, 11)), ([own, bytes([ADJUST]) + u32(0, 1), service(REQUEST)], (FAULT, 11)), ([own, own], (FAULT, 11)),
-        ([own, bytes([NEWKEYS])], (FAULT, 11)), ([own, request, *filling()], (FAULT, "bytes of other messages within a key exchange")),
+        ([own, bytes([NEWKEYS])], (FAULT, 11)), ([own, request, *filling()], (FAULT, f"more than {ASIDE_MOST} bytes")),
         ([data(0, bytes(4097))], (PROTOCOL_ERROR, "4097 bytes of data where")), ([data(1, b"data")], not_due), ([bytes([DATA]) + u32(0, 5)], not_due),
         ([request] * 40, (PROTOCOL_ERROR, "more than 32 requests")), ([bytes([NEWKEYS])], not_due), ([service(REQUEST)], not_due), ([init()], not_due),
         ([bytes([OPEN]) + string(b"session") + u32(1, 1, 1)], not_due), ([bytes([ADJUST]) + u32(0, 2**32 - 1)], not_due), ([b""], not_due),
