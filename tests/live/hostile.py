@@ -138,6 +138,15 @@ def garbage_version(p, rng):
     p.send(data)
 
 
+def cut_disconnect(p, rng):
+    """With any words, and cut at every place."""
+    p.greet()
+    text = [b"", b"two\nlines\r\n", b"\x1b[2J%s%n\0", rng.randbytes(2000)]
+    payload = rng.case([disconnect(7, t) for t in text] + [disconnect(7, b"text")[:n] for n in range(1, 17)])
+    p.must = QUIET, "reason 7" if len(payload) >= 5 else "without a reason"
+    p.send(packet(payload))
+
+
 # ---- a hostile server, against dock's client
 
 class Server(Peer):
@@ -303,14 +312,6 @@ def words_then_wrong(p, rng):
     p.send(packet(bytes([rng.case([0, 5, 6, 21, 30, 32, 50, 82, 99, 255])]) + rng.randbytes(rng.randrange(50))))
 
 
-def server_disconnects(p, rng):
-    p.greet()
-    text = [b"", b"two\nlines\r\n", b"\x1b[2J%s%n\0", rng.randbytes(2000)]
-    payload = rng.case([disconnect(7, t) for t in text] + [disconnect(7, b"text")[:n] for n in range(1, 17)])
-    p.must = QUIET, "reason 7" if len(payload) >= 5 else "without a reason"
-    p.send(packet(payload))
-
-
 def no_newkeys(p, rng):
     """The exchange is accepted and dock's NEWKEYS is out: its DISCONNECT is sealed, while this side's packets are not."""
     p.greet()
@@ -334,7 +335,7 @@ SERVERS = [
     (15, "KEXINIT refused", refused_kexinit),
     (18, "packet length", bad_packet_of_server(send_bad_length)), (10, "padding", bad_packet_of_server(send_bad_padding)),
     (18, "early close", server_closes), (22, "version line", garbage_version), (20, "words, then another message", words_then_wrong),
-    (20, "DISCONNECT", server_disconnects), (7, "no NEWKEYS", no_newkeys), (6, "nothing in common", nothing_in_common),
+    (20, "DISCONNECT", cut_disconnect), (7, "no NEWKEYS", no_newkeys), (6, "nothing in common", nothing_in_common),
 ]
 
 
@@ -439,7 +440,7 @@ CLIENTS = [
     (8, "KEXINIT cut", changed_kexinit_of_client(cut)), (16, "KEXINIT flipped", changed_kexinit_of_client(flipped)),
     (15, "KEXINIT refused", refused_kexinit),
     (18, "packet length", bad_packet_of_client(send_bad_length)), (10, "padding", bad_packet_of_client(send_bad_padding)),
-    (10, "early close", client_closes), (22, "version line", garbage_version), (7, "no NEWKEYS", no_newkeys),
+    (10, "early close", client_closes), (22, "version line", garbage_version), (20, "DISCONNECT", cut_disconnect), (7, "no NEWKEYS", no_newkeys),
     (6, "nothing in common", nothing_in_common),
 ]
 

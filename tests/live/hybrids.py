@@ -5,7 +5,8 @@ itself.
 usage: hybrids.py --dock PROGRAM --suite FOLDER --libssh FOLDER --peer PROGRAM
 
 --suite: Debian's OpenSSH, PuTTY and the libcrypto that dock runs with; --libssh: Debian's libssh, which --peer (libssh_peer.c) runs with; both as
-tests/suite.sh leaves them. Prints a line for each part; exits 1 with one line at the first failure.
+tests/suite.sh leaves them (`make hybrids`). Prints a line for each part. Exits 0 where all passed, 1 with one line at the first failure, 2 where it is
+called wrongly.
 """
 import argparse
 import os
@@ -156,7 +157,7 @@ def hostile_clients(programs, dock):
 
 
 def main():
-    options = argparse.ArgumentParser(description=__doc__.split("\n")[0])
+    options = argparse.ArgumentParser(description=__doc__, formatter_class=argparse.RawDescriptionHelpFormatter)
     for name in ("dock", "suite", "libssh", "peer"):
         options.add_argument(f"--{name}", required=True)
     options = options.parse_args()

@@ -3,9 +3,9 @@
 
 usage: live.py --dock PROGRAM [--dock-asan PROGRAM] [--dock-wrong PROGRAM] [--seed TEXT]
 
-Starts sshd and ssh itself, with keys and files in a temporary folder. Prints a line for each part; exits 1 with one line at the first
-failure. --dock-asan: the hostile peers meet this one, a build with sanitizers. --dock-wrong: a build with wrong_keys.c, whose keys must fail.
-Needs OpenSSH's client and server.
+Starts sshd and ssh itself, with keys and files in a temporary folder, all on the loopback, and needs both. Prints a line for each part, and takes a minute
+on two cores. --dock-asan: a build with sanitizers, which then meets the hostile peers. --dock-wrong: a build with wrong_keys.c, whose keys must fail; without
+it those parts are left out. Exits 0 where all passed, 1 with one line at the first failure, 2 where it is called wrongly.
 """
 import argparse
 import concurrent.futures
@@ -371,11 +371,11 @@ def part(name, work, *arguments, of="live"):
 
 
 def main():
-    options = argparse.ArgumentParser(description=__doc__.split("\n")[0])
+    options = argparse.ArgumentParser(description=__doc__, formatter_class=argparse.RawDescriptionHelpFormatter)
     options.add_argument("--dock", required=True)
-    options.add_argument("--dock-asan", help="dock under the sanitizers, which then meets the hostile peers")
-    options.add_argument("--dock-wrong", help="dock with wrong_keys.c")
-    options.add_argument("--seed", default="live")
+    options.add_argument("--dock-asan")
+    options.add_argument("--dock-wrong")
+    options.add_argument("--seed", default="live", help="of the hostile peers")
     options = options.parse_args()
     began = time.monotonic()
     end_on_signals()

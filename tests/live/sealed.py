@@ -157,8 +157,10 @@ def other_service(p, rng):
 
 
 def disconnects(p, rng):
-    p.must = QUIET, "reason 7, ??"
-    p.send(p.closes.close(words(rng)) + p.closes.close(disconnect(7, b"\x1b\n")))
+    payload, said = rng.case([(disconnect(7, b"\x1b\n"), "reason 7, ??"), (disconnect(7)[:1], "without a reason"), (disconnect(7)[:4], "without a reason"),
+                              (disconnect(7)[:5], "reason 7"), (disconnect(7)[:5] + b"\xff" * 4, "reason 7"), (disconnect(7, b"text")[:11], "reason 7")])
+    p.must = QUIET, said
+    p.send(p.closes.close(words(rng)) + p.closes.close(payload))
 
 
 def closes(p, rng):
@@ -196,5 +198,5 @@ SEALED = [
     (5, "counted otherwise", behind(counted_otherwise)), (4, "sent twice", behind(sent_twice)), (4, "left out", behind(left_out)),
     (6, "other keys", behind(other_keys)), (4, "in the clear", behind(in_the_clear)), (11, "packet length", behind(bad_length)),
     (7, "padding", behind(bad_padding)), (12, "not due", behind(not_due)), (5, "another service", behind(other_service)),
-    (4, "DISCONNECT", behind(disconnects)), (8, "early close", behind(closes)), (9, "words in a strict exchange", words_in_strict),
+    (6, "DISCONNECT", behind(disconnects)), (8, "early close", behind(closes)), (9, "words in a strict exchange", words_in_strict),
 ]
