@@ -68,19 +68,19 @@ def command_line(programs, dock):
     need(code == 0 and err == "" and re.fullmatch(rf"dock, castulfrisa {header_version()} \(OpenSSL \d[^()\n]*\)\n", said), "--version:", said)
     hybrids = all(METHODS[method] in out for method in (7, 8, 9))
     need(hybrids != ("no hybrids: this libcrypto has no ML-KEM" in out), "--help on hybrids:", out)
-    serve = "server", "0", "--host-key", programs.key(ED25519)  # all that a server needs
+    server = "server", "0", "--host-key", programs.key(ED25519)  # all that it needs
     wrong = [(), ("neither",), ("client",), ("client", "h"), ("client", "h", "0"), ("client", "h", "65536"), ("client", "h", "1x"),
              ("server",), ("server", "0"), ("client", "h", "1", "more"), ("client", "h", "1", "--methods", "curve25519-sha256,"),
              ("client", "h", "1", "--methods", "diffie-hellman-group14-sha256"), ("client", "h", "1", "--host-keys", "ssh-dss"),
              ("client", "h", "1", "--count", "1"), ("client", "h", "1", "--timeout", "0"), ("client", "h", "1", "--timeout"),
-             (*serve, "--x-begins", "0"), (*serve, "--x-begins", "00zz"), (*serve, "--known-hosts", "f"),
-             ("client", "h", "1", "--ciphers", "aes192-ctr"), ("client", "h", "1", "--ciphers", ""), (*serve, "--ciphers", "aes128-ctr/"),
+             (*server, "--x-begins", "0"), (*server, "--x-begins", "00zz"), (*server, "--known-hosts", "f"),
+             ("client", "h", "1", "--ciphers", "aes192-ctr"), ("client", "h", "1", "--ciphers", ""), (*server, "--ciphers", "aes128-ctr/"),
              ("client", "h", "1", "--rekey", "x"), ("client", "h", "1", "--turns", "curve25519-sha256,,"), ("client", "h", "1", "--echo"),
-             ("client", "h", "1", "--key", programs.key("ssh-ed25519")), ("client", "h", "1", "--rekeyed", "1"), (*serve, "--login", "user"),
+             ("client", "h", "1", "--key", programs.key("ssh-ed25519")), ("client", "h", "1", "--rekeyed", "1"), (*server, "--login", "user"),
              ("client", "h", "1", "--macs", "hmac-sha1"), ("client", "h", "1", "--macs", "hmac-sha2-256/hmac-sha2-512/hmac-sha2-512"),
              ("client", "h", "1", "--insecure", "--known-hosts", os.devnull), ("client", "h", "1", "--known-hosts", os.devnull, "--insecure"),
-             ("client", "h", "1", "--listen", "127.0.0.1"), (*serve, "--insecure"), (*serve, "--listen", "localhost"), (*serve, "--listen", ""),
-             (*serve, "--listen", "127.1"), (*serve, "--listen", "::1%lo"),
+             ("client", "h", "1", "--listen", "127.0.0.1"), (*server, "--insecure"), (*server, "--listen", "localhost"), (*server, "--listen", ""),
+             (*server, "--listen", "127.1"), (*server, "--listen", "::1%lo"),
              ("client", "h", "1", "--x-begins", "00"), ("client", "h", "1", "--known-hosts", os.devnull, "--known-hosts", os.devnull)]
     if not hybrids:
         wrong += [("client", "h", "1", "--methods", METHODS[method]) for method in (7, 8, 9)]
