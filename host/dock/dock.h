@@ -15,7 +15,7 @@
 
 typedef struct { const uint8_t *at; size_t len; } span; /* bytes that someone else keeps */
 
-/* RFC 4250, 4.1.2: those of the transport; session.c has others */
+/* RFC 4250, 4.1.2: every number that is recognized here; all others are answered with UNIMPLEMENTED */
 enum message {
     MESSAGE_DISCONNECT = 1,
     MESSAGE_IGNORE = 2,
@@ -25,7 +25,26 @@ enum message {
     MESSAGE_SERVICE_ACCEPT = 6,
     MESSAGE_KEXINIT = 20,
     MESSAGE_NEWKEYS = 21,
-    MESSAGES_OF_TRANSPORT = 50 /* those of the exchange's methods end ahead of it */
+    MESSAGES_OF_METHOD = 30,    /* from here on those of the exchange's method, which the core judges, */
+    MESSAGES_OF_TRANSPORT = 50, /* up to here, where the transport's end */
+    USERAUTH_REQUEST = 50,
+    USERAUTH_FAILURE = 51,
+    USERAUTH_SUCCESS = 52,
+    USERAUTH_BANNER = 53,
+    GLOBAL_REQUEST = 80,
+    REQUEST_SUCCESS = 81,
+    REQUEST_FAILURE = 82,
+    CHANNEL_OPEN = 90,
+    CHANNEL_OPEN_CONFIRMATION = 91,
+    CHANNEL_OPEN_FAILURE = 92,
+    CHANNEL_WINDOW_ADJUST = 93,
+    CHANNEL_DATA = 94,
+    CHANNEL_EXTENDED_DATA = 95,
+    CHANNEL_EOF = 96,
+    CHANNEL_CLOSE = 97,
+    CHANNEL_REQUEST = 98,
+    CHANNEL_SUCCESS = 99,
+    CHANNEL_FAILURE = 100
 };
 
 /* RFC 4250, 4.2.2: the reasons of a DISCONNECT that goes out */
@@ -44,6 +63,9 @@ bool trouble(const char *format, ...);
 
 /* With on, a line of --show: direction ("->", "<-" or ""), what, and each of length, number and room unless it is -1. */
 void show(bool on, const char *direction, const char *what, long length, int number, long room);
+
+/* With on, words of the peer's, of which no byte acts on a terminal. */
+void show_words(bool on, span words);
 
 /* "name hex", a line of standard output. */
 void print_hex(const char *name, const uint8_t *bytes, size_t len);
@@ -111,6 +133,8 @@ void seal_end(struct seal *s);
 /* ---- link.c: one connection, its version lines and its packets */
 
 #define PACKET_MOST 35000 /* RFC 4253, 6.1: all of it, with the MAC */
+#define ASIDE_MOST 8192   /* bytes of messages that are set aside within an exchange, four more for each */
+#define LISTEN_AT "127.0.0.1"
 
 struct link {
     int fd;
@@ -124,13 +148,17 @@ struct link {
     bool may_leave, left; /* the peer may disconnect by application, which is no failure; and it did */
     bool silent;     /* DISCONNECT went out: nothing more may */
     struct seal coming, going;
+    uint8_t aside[ASIDE_MOST];     /* strings: what came from the peer's later KEXINIT to its NEWKEYS, and is no exchange's */
+    size_t aside_begin, aside_end; /* of them those that are still to be taken */
     uint8_t in[PACKET_MOST];
     size_t begin, end; /* what has come in and is not used up */
     size_t packet;     /* length of the packet that the last payload is a part of, its tag included */
 };
 
 bool link_connect(struct link *l, const char *host, const char *port, int timeout);
-bool link_listen(int *listener, uint16_t *port);
+/* Whether it is an address of IPv4 or IPv6, in numbers. */
+bool link_is_address(const char *text);
+bool link_listen(int *listener, const char *address, uint16_t *port);
 bool link_accept(struct link *l, int listener, int timeout);
 
 /* The time that the connection may take begins anew. */
@@ -143,11 +171,12 @@ bool link_read_version(struct link *l, bool from_server, uint8_t v[CASTULFRISA_V
 
 bool link_send(struct link *l, const uint8_t *payload, size_t len);
 
-/* The payload of the next packet that is not IGNORE, DEBUG or UNIMPLEMENTED, until the next call; DISCONNECT is a failure. */
+/* The next message that is for somebody here, until the next call: IGNORE, DEBUG and UNIMPLEMENTED are passed over, a number that nobody knows is
+   answered with UNIMPLEMENTED, and what is no exchange's and comes within a later one waits for its end. DISCONNECT is a failure. */
 bool link_receive(struct link *l, span *payload);
 
-/* UNIMPLEMENTED, for the packet that came last. */
-bool link_unimplemented(struct link *l);
+/* The next one that waited; false: there is none. link_receive has them first. */
+bool link_take_aside(struct link *l, span *payload);
 
 /* DISCONNECT, after which nothing more goes out; sealed behind own NEWKEYS, as all else. */
 void link_disconnect(struct link *l, enum reason reason, const char *text);
@@ -228,6 +257,10 @@ EVP_PKEY *ed25519_key(span public_key, span seed);
 EVP_PKEY *ecdsa_key(const char *group, span point, span d);
 EVP_PKEY *rsa_key(span n, span e, span d);
 
+/* Whether a blob has the form of the scheme's keys. */
+bool is_host_key(const struct scheme *s, span blob);
+
+/* Only for a key of the scheme's type, and a signature by the scheme's name. */
 bool signature_holds(const struct scheme *s, span host_key, span signature, const uint8_t *h, size_t h_len);
 bool sign_hash(const struct host_key *k, const struct scheme *s, const uint8_t *h, size_t h_len, uint8_t *out, size_t *out_len);
 
@@ -243,9 +276,20 @@ bool load_host_key(const char *path, struct host_key *k);
 
 #define FINGERPRINT 64
 
-enum known { KNOWN_NOT_ASKED, KNOWN_YES, KNOWN_MISSING, KNOWN_DIFFERS };
+/* The keys of the lines that speak for one host. */
+struct known_key { uint8_t *blob; size_t len; bool revoked; };
+struct known_hosts { struct known_key *keys; size_t count; };
 
-enum known known_host(FILE *file, const char *host, const char *port, const char *type, span host_key);
+/* Reads a file of known hosts, and tells of lines that are not used, all in one line on standard error; false where it cannot be read. */
+bool known_read(struct known_hosts *known, const char *path, const char *host, const char *port);
+void known_end(struct known_hosts *known);
+
+enum known { KNOWN_NOT_CHECKED, KNOWN_YES, KNOWN_MISSING, KNOWN_DIFFERS, KNOWN_REVOKED };
+
+enum known known_host(const struct known_hosts *known, span host_key);
+
+/* Whether there is a key of that type which is not revoked. */
+bool known_type(const struct known_hosts *known, const char *type);
 
 /* "SHA256:" and the base64 of the digest, as ssh-keygen -l prints it. */
 bool fingerprint(span host_key, char out[FINGERPRINT]);
@@ -292,16 +336,18 @@ enum direction { TO_SERVER, TO_CLIENT };
 struct settings {
     const char *methods;   /* name-lists for the own KEXINIT */
     const char *turns;     /* of the later exchanges each offers one of these alone, in turn; NULL: they offer the methods, too */
-    const char *host_keys; /* a server's come from its keys */
+    const char *host_keys; /* a server's come from its keys; a client's begin with those of the types that it knows, where none are asked for */
     span ciphers[2], macs[2]; /* by direction */
     bool not_strict;          /* strict key exchange is not offered */
     bool no_service;          /* NEWKEYS is the end */
     long rekeyings;           /* to ask for */
     bool show;
+    bool show_x; /* for tests: the first bytes of X, which are a secret, are printed */
     int timeout;
 
-    const char *host, *port; /* client */
-    FILE *known_hosts;       /* NULL: not asked */
+    const char *host, *port;               /* client */
+    const struct known_hosts *known_hosts; /* NULL: the host key is not checked, */
+    bool insecure;                         /* and taken all the same */
     const char *user;        /* to log in as; NULL: the service is the end */
     const struct host_key *login_key;
     long peer_rekeyings; /* data flow until the peer has asked for so many */

@@ -9,6 +9,7 @@
 #include <openssl/param_build.h>
 #include <string.h>
 
+#define ED25519_BYTES 32 /* of a public key */
 #define RSA_BITS_LEAST 2048
 #define RSA_BYTES_MOST 2048 /* no longer number fits a blob */
 
@@ -169,23 +170,36 @@ EVP_PKEY *rsa_key(span n, span e, span d)
     return key;
 }
 
-/* The public key of a blob that must be of the scheme's type, and nothing behind it. */
+/* The parts of a blob that must be of the scheme's type, with nothing behind them: the public key, or its point, or e and n. */
+static bool read_parts(const struct scheme *s, span blob, span *first, span *second)
+{
+    span type, curve;
+    if (!take_string(&blob, &type) || !span_is(type, s->key_type)) return false;
+    switch (s->kind) {
+    case KEY_ED25519: return take_string(&blob, first) && blob.len == 0 && first->len == ED25519_BYTES;
+    case KEY_ECDSA:
+        if (!take_string(&blob, &curve) || !span_is(curve, s->curve) || !take_string(&blob, first) || blob.len != 0) return false;
+        return first->len > 0 && first->at[0] == 4; /* libcrypto would take other forms of a point too, and infinity */
+    case KEY_RSA: return take_positive(&blob, first) && take_positive(&blob, second) && blob.len == 0;
+    }
+    return false;
+}
+
+bool is_host_key(const struct scheme *s, span blob)
+{
+    span first, second;
+    return read_parts(s, blob, &first, &second);
+}
+
 static EVP_PKEY *read_host_key(const struct scheme *s, span blob)
 {
     const span none = {NULL, 0};
-    span type, curve, value, e, n;
-    if (!take_string(&blob, &type) || !span_is(type, s->key_type)) return NULL;
+    span first, second;
+    if (!read_parts(s, blob, &first, &second)) return NULL;
     switch (s->kind) {
-    case KEY_ED25519:
-        if (!take_string(&blob, &value) || blob.len != 0) return NULL;
-        return ed25519_key(value, none);
-    case KEY_ECDSA:
-        if (!take_string(&blob, &curve) || !span_is(curve, s->curve) || !take_string(&blob, &value) || blob.len != 0) return NULL;
-        if (value.len == 0 || value.at[0] != 4) return NULL; /* libcrypto would take other forms of a point too, and infinity */
-        return ecdsa_key(s->group, value, none);
-    case KEY_RSA:
-        if (!take_positive(&blob, &e) || !take_positive(&blob, &n) || blob.len != 0) return NULL;
-        return rsa_key(n, e, none);
+    case KEY_ED25519: return ed25519_key(first, none);
+    case KEY_ECDSA: return ecdsa_key(s->group, first, none);
+    case KEY_RSA: return rsa_key(second, first, none);
     }
     return NULL;
 }
@@ -279,7 +293,7 @@ bool sign_hash(const struct host_key *k, const struct scheme *s, const uint8_t *
 
 static bool describe_ed25519(EVP_PKEY *key, struct blob *blob)
 {
-    uint8_t value[32];
+    uint8_t value[ED25519_BYTES];
     size_t len = sizeof value;
     if (EVP_PKEY_get_raw_public_key(key, value, &len) <= 0) return false;
     put_string(blob, value, len);

@@ -8,6 +8,7 @@
 #define STRICT_CLIENT "kex-strict-c-v00@openssh.com" /* OpenSSH's PROTOCOL, 1.10: no methods, but they stand in the list of methods */
 #define STRICT_SERVER "kex-strict-s-v00@openssh.com"
 #define NO_MESSAGE UINT64_MAX /* in place of a message's length */
+#define NOT_CHECKED "host key NOT checked: %s %s"
 #define DRAWS_MOST 1000000L /* for an X that begins as asked: one in 65,536 does, but for bytes that a method never has */
 
 /* All that one connection knows; wiped as a whole. */
@@ -42,7 +43,7 @@ struct kex {
     uint64_t kem; /* enum castulfrisa_kem */
     uint8_t x[CASTULFRISA_X_MOST], k_pq[CASTULFRISA_K_PQ_SIZE], k[CASTULFRISA_K], h[CASTULFRISA_H_SIZE];
     size_t x_count, k_pq_len;
-    uint8_t x_begins[2]; /* what is printed of X */
+    uint8_t x_begins[X_BEGINS_MOST]; /* what is printed of X, for tests that ask for it; else nothing of X is kept */
 };
 
 #define EXCHANGE(k) (k)->exchange, sizeof (k)->exchange, (k)->room, sizeof (k)->room
@@ -215,11 +216,11 @@ static bool negotiate(struct kex *k, span peer)
     return accepted(k, what, shown(k, "", what, NO_MESSAGE, number, 4 * 4 + k->vc.len + k->vs.len + k->ic.len + k->is.len));
 }
 
-/* The peer's message of the exchange, a wrong guess dropped. */
+/* The peer's message of the exchange, a wrong guess dropped; which is the method's own, or none. */
 static bool receive_message(struct kex *k, span *payload)
 {
     if (!link_receive(&k->link, payload)) return false;
-    if (!k->drop) return true;
+    if (!k->drop || payload->len == 0 || payload->at[0] < MESSAGES_OF_METHOD || payload->at[0] >= MESSAGES_OF_TRANSPORT) return true;
     k->drop = false;
     show(k->link.show, "<-", "wrong guess", (long)payload->len, -1, -1);
     return link_receive(&k->link, payload);
@@ -265,7 +266,7 @@ static void forget_secrets(struct kex *k)
         EVP_PKEY_free(*ephemeral[i]);
         *ephemeral[i] = NULL;
     }
-    memcpy(k->x_begins, k->x, sizeof k->x_begins);
+    if (k->set->show_x) memcpy(k->x_begins, k->x, sizeof k->x_begins);
     k->kem = CASTULFRISA_KEM_ABSENT;
     const size_t versions = 4 + k->vc.len + 4 + k->vs.len;
     castulfrisa_wipe(k->room + versions, sizeof k->room - versions);
@@ -294,8 +295,8 @@ static bool exchange_newkeys(struct kex *k)
 static void print_first(struct kex *k, const char *print, enum known known)
 {
     printf("host key %s %s\n", k->scheme->name, print);
-    if (k->role == CASTULFRISA_CLIENT) printf("known %s\n", known == KNOWN_YES ? "yes" : "not asked");
-    print_hex("X begins", k->x_begins, sizeof k->x_begins);
+    if (k->role == CASTULFRISA_CLIENT) printf("known %s\n", known == KNOWN_YES ? "yes" : "NOT checked");
+    if (k->set->show_x) print_hex("X begins", k->x_begins, sizeof k->x_begins);
     for (int way = TO_SERVER; way <= TO_CLIENT; way++) {
         const struct suite *s = &seal_towards(k, way)->now;
         printf("%s %s %s\n", way == TO_SERVER ? "to server" : "to client", s->cipher->name, s->mac->name);
@@ -356,30 +357,40 @@ static bool take_secret(struct kex *k, bool given, span host_key, span s)
     return accepted(k, "secret", shown(k, "", "secret", NO_MESSAGE, number, count));
 }
 
+/* One that was not checked is refused, unless it was asked for otherwise; what it is, a person is told, and can compare it. */
+static bool refuse_host_key(struct kex *k, const char *print, bool holds, bool same, enum known known)
+{
+    const unsigned number = CASTULFRISA_VERDICT;
+    if (holds && same && known == KNOWN_NOT_CHECKED)
+        return peer_fault(&k->link, NOT_CHECKED "; compare it and give --known-hosts, or give --insecure (number %u: %s)", k->scheme->key_type, print,
+                          number, castulfrisa_text(number));
+    const char *why = !holds     ? "signature over H does not hold"
+        : !same                  ? "is not that of the first exchange"
+        : known == KNOWN_REVOKED ? "it is revoked"
+        : known == KNOWN_DIFFERS ? "differs from the known one"
+                                 : "not known";
+    return peer_fault(&k->link, "host key %s %s: %s (number %u: %s)", k->scheme->name, print, why, number, castulfrisa_text(number));
+}
+
 /* The verdict: both answers in, K out. The line says which of the two failed. */
 static bool give_verdict(struct kex *k, span host_key, span signature, const char *print, enum known *known)
 {
     const struct settings *set = k->set;
     bool holds = signature_holds(k->scheme, host_key, signature, k->h, (size_t)k->sizes.digest_len);
-    if (set->known_hosts != NULL) *known = known_host(set->known_hosts, set->host, set->port, k->scheme->key_type, host_key);
+    if (set->known_hosts != NULL) *known = known_host(set->known_hosts, host_key);
     bool same = is_first(k) || (host_key.len == k->host_key_len && memcmp(host_key.at, k->host_key, host_key.len) == 0);
-    bool trusted = same && (*known == KNOWN_NOT_ASKED || *known == KNOWN_YES);
+    bool trusted = same && (*known == KNOWN_YES || (*known == KNOWN_NOT_CHECKED && set->insecure));
 
     uint64_t k_len;
     uint64_t number = castulfrisa_verdict(EXCHANGE(k), holds, trusted, k->k, sizeof k->k, &k_len);
     castulfrisa_wipe_stack();
     shown(k, "", "verdict", NO_MESSAGE, number, k->filled);
-    if (number == CASTULFRISA_OK) {
-        memcpy(k->host_key, host_key.at, host_key.len); /* which the core took for no longer than a blob */
-        k->host_key_len = host_key.len;
-    }
-    if (number != CASTULFRISA_VERDICT) return accepted(k, "verdict", number);
-    const char *why = !holds      ? "signature over H does not hold"
-        : !same                   ? "is not that of the first exchange"
-        : *known == KNOWN_DIFFERS ? "differs from the known one"
-                                  : "not known";
-    return peer_fault(&k->link, "host key %s %s: %s (number %u: %s)", k->scheme->name, print, why, (unsigned)number,
-                      castulfrisa_text(number));
+    if (number == CASTULFRISA_VERDICT) return refuse_host_key(k, print, holds, same, *known);
+    if (!accepted(k, "verdict", number)) return false;
+    if (is_first(k) && *known == KNOWN_NOT_CHECKED) trouble(NOT_CHECKED, k->scheme->key_type, print);
+    memcpy(k->host_key, host_key.at, host_key.len); /* which the core took for no longer than a blob */
+    k->host_key_len = host_key.len;
+    return true;
 }
 
 /* Own C: the public value, in a hybrid behind the KEM's key. */
@@ -407,7 +418,7 @@ static bool client(struct kex *k)
     uint8_t init[CASTULFRISA_INIT];
     span host_key, s, signature;
     char print[FINGERPRINT];
-    enum known known = KNOWN_NOT_ASKED;
+    enum known known = KNOWN_NOT_CHECKED;
     const span none = {NULL, 0};
 
     if (!draw_c(k)) return false;
@@ -496,7 +507,7 @@ static bool server(struct kex *k)
     if (!fingerprint(host_key, print)) return trouble("no digest for the fingerprint");
 
     return read_init(k, &given) && take_secret(k, given, host_key, (span){k->c, k->c_len}) && send_reply(k, key)
-        && finish(k, print, KNOWN_NOT_ASKED);
+        && finish(k, print, KNOWN_NOT_CHECKED);
 }
 
 /* ---- the first exchange and all others */
@@ -542,6 +553,8 @@ bool kex_ask(struct kex *k, bool (*take)(void *of, span payload), void *of)
         if (is_kexinit(payload)) {
             if (!exchange(k, payload, true)) return false;
             k->asked.own++;
+            while (link_take_aside(&k->link, &payload))
+                if (!take(of, payload)) return false;
             return true;
         }
         if (!take(of, payload)) return false;

@@ -1,5 +1,6 @@
 /* One connection: its socket, version lines (RFC 4253, 4.2) and packets (RFC 4253, 6), in the clear up to NEWKEYS and sealed behind it. */
 #include "dock.h"
+#include <arpa/inet.h>
 #include <errno.h>
 #include <fcntl.h>
 #include <limits.h>
@@ -133,22 +134,44 @@ bool link_connect(struct link *l, const char *host, const char *port, int timeou
     return failure == NULL || trouble("%s port %s: %s", host, port, failure);
 }
 
-bool link_listen(int *listener, uint16_t *port)
+union address { struct sockaddr any; struct sockaddr_in v4; struct sockaddr_in6 v6; };
+
+static bool read_address(const char *text, uint16_t port, union address *address, socklen_t *size)
 {
-    struct sockaddr_in address;
-    socklen_t size = sizeof address;
+    memset(address, 0, sizeof *address);
+    if (inet_pton(AF_INET, text, &address->v4.sin_addr) == 1) {
+        address->v4.sin_family = AF_INET;
+        address->v4.sin_port = htons(port);
+        *size = sizeof address->v4;
+        return true;
+    }
+    address->v6.sin6_family = AF_INET6;
+    address->v6.sin6_port = htons(port);
+    *size = sizeof address->v6;
+    return inet_pton(AF_INET6, text, &address->v6.sin6_addr) == 1;
+}
+
+bool link_is_address(const char *text)
+{
+    union address address;
+    socklen_t size;
+    return read_address(text, 0, &address, &size);
+}
+
+/* At this address alone: one of IPv6 takes none of IPv4, too. */
+bool link_listen(int *listener, const char *text, uint16_t *port)
+{
+    union address address;
+    socklen_t size;
     int yes = 1;
 
-    memset(&address, 0, sizeof address);
-    address.sin_family = AF_INET;
-    address.sin_addr.s_addr = htonl(INADDR_ANY);
-    address.sin_port = htons(*port);
-    *listener = socket(AF_INET, SOCK_STREAM, 0);
+    if (!read_address(text, *port, &address, &size)) return trouble("%s: no address", text);
+    *listener = socket(address.any.sa_family, SOCK_STREAM, 0);
     if (*listener < 0 || setsockopt(*listener, SOL_SOCKET, SO_REUSEADDR, &yes, sizeof yes) != 0
-        || bind(*listener, (struct sockaddr *)&address, sizeof address) != 0 || listen(*listener, 16) != 0
-        || getsockname(*listener, (struct sockaddr *)&address, &size) != 0)
-        return trouble("port %u: %s", (unsigned)*port, strerror(errno));
-    *port = ntohs(address.sin_port);
+        || (address.any.sa_family == AF_INET6 && setsockopt(*listener, IPPROTO_IPV6, IPV6_V6ONLY, &yes, sizeof yes) != 0)
+        || bind(*listener, &address.any, size) != 0 || listen(*listener, 16) != 0 || getsockname(*listener, &address.any, &size) != 0)
+        return trouble("%s port %u: %s", text, (unsigned)*port, strerror(errno));
+    *port = ntohs(address.any.sa_family == AF_INET ? address.v4.sin_port : address.v6.sin6_port);
     return true;
 }
 
@@ -249,23 +272,89 @@ static bool disconnected(struct link *l, span payload)
                    text.len > 200 ? 200 : (int)text.len, (const char *)text.at);
 }
 
+/* RFC 4250, 4.1: 0 is no number, and left to who waits for a message, as an empty payload is. */
+static bool is_recognized(uint8_t message)
+{
+    return message <= MESSAGE_SERVICE_ACCEPT || message == MESSAGE_KEXINIT || message == MESSAGE_NEWKEYS
+        || (message >= MESSAGES_OF_METHOD && message < MESSAGES_OF_TRANSPORT) || (message >= USERAUTH_REQUEST && message <= USERAUTH_BANNER)
+        || (message >= GLOBAL_REQUEST && message <= REQUEST_FAILURE) || (message >= CHANNEL_OPEN && message <= CHANNEL_FAILURE);
+}
+
+/* For the packet that came last, by its number. */
+static bool answer_unimplemented(struct link *l)
+{
+    uint8_t payload[5];
+    struct blob b = {payload, sizeof payload, 0, false};
+    put_byte(&b, MESSAGE_UNIMPLEMENTED);
+    put_number(&b, l->coming.sequence - 1);
+    show(l->show, "->", "UNIMPLEMENTED", (long)b.len, -1, -1);
+    return link_send(l, payload, b.len);
+}
+
+/* RFC 4253, 11.3; where it is not well-formed there are no words. */
+static void show_debug(const struct link *l, span payload)
+{
+    bool always;
+    span rest = {payload.at + 1, payload.len - 1}, words;
+    show(l->show, "<-", "DEBUG", (long)payload.len, -1, -1);
+    if (take_yes(&rest, &always) && take_string(&rest, &words)) show_words(l->show, words);
+}
+
+/* What may come at any time and is for nobody; of a number that nobody knows the peer is told so (RFC 4253, 11.4). */
+static bool pass_by(struct link *l, uint8_t message, span payload)
+{
+    const long len = (long)payload.len;
+    switch (message) {
+    case MESSAGE_IGNORE: show(l->show, "<-", "IGNORE", len, -1, -1); return true;
+    case MESSAGE_DEBUG: show_debug(l, payload); return true;
+    case MESSAGE_UNIMPLEMENTED:
+        show(l->show, "<-", "UNIMPLEMENTED", len, -1, -1);
+        if (l->held && !l->exchanging && len == 5 && number_at(payload.at + 1) == l->kexinit)
+            return trouble("the peer makes no key exchange at this time");
+        return true;
+    }
+    show(l->show, "<-", "unknown message", len, -1, -1);
+    return answer_unimplemented(l);
+}
+
+/* Some peers send data and answers also behind their KEXINIT, which RFC 4253, 7.1, forbids: the core is not handed them, and they are not lost. */
+static bool set_aside(struct link *l, span payload)
+{
+    struct blob b = {l->aside, sizeof l->aside, l->aside_end, false};
+    put_string(&b, payload.at, payload.len);
+    if (b.short_of_room) return peer_fault(l, "more than %d bytes of other messages within a key exchange", ASIDE_MOST);
+    l->aside_end = b.len;
+    show(l->show, "<-", "set aside", (long)payload.len, -1, -1);
+    return true;
+}
+
+bool link_take_aside(struct link *l, span *payload)
+{
+    span rest = {l->aside + l->aside_begin, l->aside_end - l->aside_begin};
+    if (!take_string(&rest, payload)) return false;
+    l->aside_begin = l->aside_end - rest.len;
+    if (rest.len == 0) l->aside_begin = l->aside_end = 0;
+    return true;
+}
+
+/* Up to the first NEWKEYS nothing is sealed: what is not the transport's goes to who waits for a message of the exchange, and is refused there. */
 bool link_receive(struct link *l, span *payload)
 {
+    if (!l->exchanging && link_take_aside(l, payload)) return true;
     while (receive_packet(l, payload)) {
-        uint8_t message = payload->len > 0 ? payload->at[0] : 0;
-        long len = (long)payload->len;
-        switch (message) {
-        case MESSAGE_IGNORE: show(l->show, "<-", "IGNORE", len, -1, -1); break;
-        case MESSAGE_DEBUG: show(l->show, "<-", "DEBUG", len, -1, -1); break;
-        case MESSAGE_UNIMPLEMENTED:
-            show(l->show, "<-", "UNIMPLEMENTED", len, -1, -1);
-            if (l->held && !l->exchanging && len == 5 && number_at(payload->at + 1) == l->kexinit)
-                return trouble("the peer makes no key exchange at this time");
-            break;
-        case MESSAGE_DISCONNECT: show(l->show, "<-", "DISCONNECT", len, -1, -1); return disconnected(l, *payload);
-        default: return true;
+        const uint8_t message = payload->len > 0 ? payload->at[0] : 0;
+        const bool of_transport = message < MESSAGES_OF_TRANSPORT, sealed = l->coming.on;
+        const bool word = message == MESSAGE_IGNORE || message == MESSAGE_DEBUG || message == MESSAGE_UNIMPLEMENTED;
+        if (!of_transport && !sealed) return true;
+        if (message == MESSAGE_DISCONNECT) {
+            show(l->show, "<-", "DISCONNECT", (long)payload->len, -1, -1);
+            return disconnected(l, *payload);
         }
-        if (l->strict && !l->coming.on) return peer_fault(l, "message %u within a strict key exchange", (unsigned)message);
+        if (word || !is_recognized(message)) {
+            if (l->strict && !sealed) return peer_fault(l, "message %u within a strict key exchange", (unsigned)message);
+            if (!pass_by(l, message, *payload)) return false;
+        } else if (of_transport || !l->exchanging) return true;
+        else if (!set_aside(l, *payload)) return false;
     }
     return false;
 }
@@ -337,16 +426,6 @@ bool link_send(struct link *l, const uint8_t *payload, size_t len)
     const char *failure = send_packet(l, payload, len);
     if (l->may_leave) return true; /* where it has left, its last words say so: they are still to be read */
     return failure == NULL || trouble("sending: %s", failure);
-}
-
-bool link_unimplemented(struct link *l)
-{
-    uint8_t payload[5];
-    struct blob b = {payload, sizeof payload, 0, false};
-    put_byte(&b, MESSAGE_UNIMPLEMENTED);
-    put_number(&b, l->coming.sequence - 1);
-    show(l->show, "->", "UNIMPLEMENTED", (long)b.len, -1, -1);
-    return link_send(l, payload, b.len);
 }
 
 void link_disconnect(struct link *l, enum reason reason, const char *text)

@@ -17,24 +17,28 @@
 enum { DONE = 0, FAILED = 1, USAGE = 2 };
 
 static const char help[] =
-    "usage: dock client HOST PORT [--known-hosts FILE] [--host-keys NAME,..] [--login USER [--key FILE] [--rekeyed N]] [options]\n"
-    "       dock server PORT --host-key FILE [--host-key FILE ..] [--echo] [--x-begins HEX] [--count N] [options]\n"
+    "usage: dock client HOST PORT --known-hosts FILE | --insecure [--host-keys NAME,..] [--login USER [--key FILE] [--rekeyed N]] [options]\n"
+    "       dock server PORT --host-key FILE [--host-key FILE ..] [--listen ADDRESS] [--echo] [--x-begins HEX] [--count N] [options]\n"
+    "       dock --help | --version\n"
     "\n"
     "Makes an SSH key exchange, and behind NEWKEYS, encrypted, asks for the service ssh-userauth or accepts it, which is the end. Prints\n"
-    "method, H, the session identifier, host key, the first two bytes of X, cipher and MAC of each direction, whether the exchange was strict,\n"
-    "and the service; and method, H and identifier of each later exchange, of which the peer may ask for any number.\n"
+    "method, H, the session identifier, host key, cipher and MAC of each direction, whether the exchange was strict, and the service;\n"
+    "and method, H and identifier of each later exchange, of which the peer may ask for any number.\n"
     "A failure is one line on standard error and exit 1; a fault of the peer is answered with SSH_DISCONNECT, reason 3, or 2, 5 or 7\n"
     "behind NEWKEYS. Exit 2: the command line.\n"
     "\n"
-    "  --known-hosts FILE  refuse a host key that FILE does not have for HOST ('host type base64' or '[host]:port type base64')\n"
+    "  --known-hosts FILE  refuse a host key that FILE does not have for HOST and PORT, or has as revoked. FILE is as ssh has it (sshd(8),\n"
+    "                      SSH_KNOWN_HOSTS FILE FORMAT), but for @cert-authority; a name without a port is for port 22 alone\n"
+    "  --insecure          go on with a host key that nobody checked; without either of the two it is refused, and its fingerprint told\n"
     "  --host-keys NAME,.. host key names in order of preference: ssh-ed25519, ecdsa-sha2-nistp256, ecdsa-sha2-nistp384,\n"
-    "                      ecdsa-sha2-nistp521, rsa-sha2-512, rsa-sha2-256\n"
+    "                      ecdsa-sha2-nistp521, rsa-sha2-512, rsa-sha2-256; else these, and ahead of the others those that FILE has a key for\n"
     "  --login USER        go on behind the service: log in, run cat, and send data until the exchanges that are asked for are complete; what\n"
     "                      comes back must be the same\n"
     "  --key FILE          log in with this private key, in a form of --host-key's; else by the method none\n"
     "  --rekeyed N         with --login: send data until the peer has asked for N exchanges\n"
     "  --host-key FILE     a private key, in PEM or OpenSSH form, without a passphrase\n"
-    "  --x-begins HEX      for tests: draw the ephemeral key until X begins with these 1 or 2 bytes\n"
+    "  --listen ADDRESS    where to listen, of IPv4 or IPv6 (" LISTEN_AT ")\n"
+    "  --x-begins HEX      for tests: draw the ephemeral key until X begins with these 1 or 2 bytes, and print as --show-x does\n"
     "  --echo              go on behind the service: let anybody in by the method none, and send back what comes for the first command\n"
     "  --count N           connections to serve, one after the other (1); exit 0 if every exchange was completed\n"
     "options:\n"
@@ -48,8 +52,9 @@ static const char help[] =
     "  --no-strict         do not offer strict key exchange\n"
     "  --no-service        end at NEWKEYS\n"
     "  --show              print each message and step, the core's number for it, and how far the room is filled\n"
+    "  --show-x            for tests: print the first two bytes of X, which are a secret\n"
     "  --timeout SECONDS   what one connection may take (20)\n"
-    "PORT 0 of a server is any free port; 'listening on PORT' is printed first.\n";
+    "PORT 0 of a server is any free port; 'listening on PORT' is printed first, with --listen 'listening on PORT at ADDRESS'.\n";
 
 /* Whether the libcrypto that runs has what the hybrids take beside a curve. */
 static bool has_hybrids(void)
@@ -68,9 +73,16 @@ static int print_help(void)
     return printf(help, hybrids) < 0 || fflush(stdout) != 0 ? FAILED : DONE;
 }
 
+static int print_version(void)
+{
+    return printf("dock, castulfrisa %d (%s)\n", CASTULFRISA_VERSION, OpenSSL_version(OPENSSL_VERSION)) < 0 || fflush(stdout) != 0 ? FAILED : DONE;
+}
+
 struct command {
     struct settings set;
     struct host_key keys[HOST_KEYS_MOST], login_key;
+    struct known_hosts known;
+    const char *known_path, *address; /* NULL: not asked for */
     char host_keys[512], port[8];
     long count;
 };
@@ -148,6 +160,8 @@ static bool is_option(const char *given, const char *name) { return strcmp(given
 static bool take_flag(struct settings *set, bool client, const char *name)
 {
     if (is_option(name, "--show")) set->show = true;
+    else if (is_option(name, "--show-x")) set->show_x = true;
+    else if (client && is_option(name, "--insecure")) set->insecure = true;
     else if (is_option(name, "--no-strict")) set->not_strict = true;
     else if (is_option(name, "--no-service")) set->no_service = true;
     else if (!client && is_option(name, "--echo")) set->echo = true;
@@ -179,9 +193,8 @@ static int take_option(struct command *c, bool client, const char *name, const c
         if (!all_names(text_span(value), is_own_scheme)) return misused("no list of host key names that are verified here", value);
         set->host_keys = value;
     } else if (client && is_option(name, "--known-hosts")) {
-        if (set->known_hosts != NULL) return misused("--known-hosts given twice", NULL);
-        set->known_hosts = fopen(value, "r");
-        if (set->known_hosts == NULL) return trouble("%s: %s", value, strerror(errno)), FAILED;
+        if (c->known_path != NULL) return misused("--known-hosts given twice", NULL);
+        c->known_path = value;
     } else if (client && is_option(name, "--login")) {
         set->user = value;
     } else if (client && is_option(name, "--key")) {
@@ -194,8 +207,12 @@ static int take_option(struct command *c, bool client, const char *name, const c
         if (set->key_count == HOST_KEYS_MOST) return misused("too many host keys", NULL);
         if (!load_host_key(value, &c->keys[set->key_count])) return FAILED;
         set->key_count++;
+    } else if (!client && is_option(name, "--listen")) {
+        if (!link_is_address(value)) return misused("no address of IPv4 or IPv6", value);
+        c->address = value;
     } else if (!client && is_option(name, "--x-begins")) {
         if (!read_hex(value, set->x_begins, sizeof set->x_begins, &set->x_begins_len)) return misused("no 1 or 2 bytes in hex", value);
+        set->show_x = true;
     } else if (!client && is_option(name, "--count")) {
         if (!whole_number(value, 1, 1000000000, &c->count)) return misused("no number of connections", value);
     } else
@@ -230,6 +247,17 @@ static void list_host_keys(struct command *c)
     c->set.host_keys = c->host_keys;
 }
 
+/* All names, those of the types that are known for the host ahead of the others: what the server then chooses can be checked. */
+static void prefer_known(struct command *c)
+{
+    size_t len = 0;
+    for (int known = 1; known >= 0; known--)
+        for (size_t i = 0; i < scheme_count; i++)
+            if (known_type(&c->known, schemes[i].key_type) == (known == 1))
+                len += (size_t)snprintf(c->host_keys + len, sizeof c->host_keys - len, "%s%s", len == 0 ? "" : ",", schemes[i].name);
+    c->set.host_keys = c->host_keys;
+}
+
 static int run_client(struct command *c, char **arguments)
 {
     long port;
@@ -238,10 +266,15 @@ static int run_client(struct command *c, char **arguments)
     snprintf(c->port, sizeof c->port, "%ld", port);
     c->set.host = arguments[0];
     c->set.port = c->port;
-    c->set.host_keys = "ssh-ed25519,ecdsa-sha2-nistp256,ecdsa-sha2-nistp384,ecdsa-sha2-nistp521,rsa-sha2-512,rsa-sha2-256";
     int result = take_options(c, true, arguments + 2);
     if (result != DONE) return result;
     if (c->set.user == NULL && (c->set.login_key != NULL || c->set.peer_rekeyings > 0)) return misused("--key and --rekeyed need --login", NULL);
+    if (c->known_path != NULL) {
+        if (c->set.insecure) return misused("--insecure with --known-hosts", NULL);
+        if (!known_read(&c->known, c->known_path, c->set.host, c->set.port)) return FAILED;
+        c->set.known_hosts = &c->known;
+    }
+    if (c->set.host_keys == NULL) prefer_known(c);
     bool done = connect_as_client(&c->set);
     wipe_stack();
     return done ? DONE : FAILED;
@@ -259,8 +292,9 @@ static int run_server(struct command *c, char **arguments)
     list_host_keys(c);
 
     uint16_t port = (uint16_t)number;
-    if (!link_listen(&listener, &port)) return FAILED;
-    printf("listening on %u\n", (unsigned)port);
+    if (!link_listen(&listener, c->address == NULL ? LISTEN_AT : c->address, &port)) return FAILED;
+    if (c->address == NULL) printf("listening on %u\n", (unsigned)port);
+    else printf("listening on %u at %s\n", (unsigned)port, c->address);
     fflush(stdout);
     for (long i = 0; i < c->count; i++) {
         if (!connect_as_server(&c->set, listener)) result = FAILED;
@@ -280,8 +314,10 @@ int main(int count, char **arguments)
     c.set.keys = c.keys;
     signal(SIGPIPE, SIG_IGN); /* a reader of our output that went away is a failure like others */
     if (count < 2) return misused("client or server?", NULL);
-    for (int i = 1; i < count; i++)
-        if (is_option(arguments[i], "--help")) return print_help();
+    for (int i = 1; i < count; i++) {
+        if (is_option(arguments[i], "--help") || is_option(arguments[i], "-h")) return print_help();
+        if (is_option(arguments[i], "--version")) return print_version();
+    }
     c.set.methods = has_hybrids() ? HYBRIDS "," METHODS : METHODS;
     (void)read_directions(CIPHERS, is_own_cipher, c.set.ciphers);
     (void)read_directions(MACS, is_own_mac, c.set.macs);
@@ -292,6 +328,6 @@ int main(int count, char **arguments)
 
     for (size_t i = 0; i < c.set.key_count; i++) EVP_PKEY_free(c.keys[i].key);
     EVP_PKEY_free(c.login_key.key);
-    if (c.set.known_hosts != NULL) fclose(c.set.known_hosts);
+    known_end(&c.known);
     return result;
 }

@@ -3,6 +3,13 @@
 #include <stdarg.h>
 #include <stdlib.h>
 
+/* Parts of it may be the peer's words: it stays one line, and no byte of it acts on a terminal (RFC 4251, 9.2). */
+static void make_harmless(char *line)
+{
+    for (; *line != 0; line++)
+        if ((unsigned char)*line < 32 || (unsigned char)*line > 126) *line = '?';
+}
+
 bool trouble(const char *format, ...)
 {
     char line[512];
@@ -10,10 +17,7 @@ bool trouble(const char *format, ...)
     va_start(arguments, format);
     vsnprintf(line, sizeof line, format, arguments);
     va_end(arguments);
-
-    /* Parts of it may be the peer's words: it stays one line, and no byte of it acts on a terminal. */
-    for (char *at = line; *at != 0; at++)
-        if ((unsigned char)*at < 32 || (unsigned char)*at > 126) *at = '?';
+    make_harmless(line);
     fflush(stdout);
     fprintf(stderr, "dock: %s\n", line);
     return false;
@@ -28,6 +32,16 @@ void show(bool on, const char *direction, const char *what, long length, int num
     if (number >= 0) printf("  number %d", number);
     if (room >= 0) printf("  room %ld of %d", room, CASTULFRISA_ROOM);
     putchar('\n');
+    fflush(stdout);
+}
+
+void show_words(bool on, span words)
+{
+    char line[256];
+    if (!on) return;
+    snprintf(line, sizeof line, "%.*s", words.len < sizeof line ? (int)words.len : (int)sizeof line - 1, (const char *)words.at);
+    make_harmless(line);
+    printf("   \"%s\"\n", line);
     fflush(stdout);
 }
 

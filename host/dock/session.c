@@ -6,26 +6,6 @@
 #include "dock.h"
 #include <string.h>
 
-enum {
-    USERAUTH_REQUEST = 50,
-    USERAUTH_FAILURE = 51,
-    USERAUTH_SUCCESS = 52,
-    USERAUTH_BANNER = 53,
-    GLOBAL_REQUEST = 80,
-    REQUEST_FAILURE = 82,
-    CHANNEL_OPEN = 90,
-    CHANNEL_OPEN_CONFIRMATION = 91,
-    CHANNEL_OPEN_FAILURE = 92,
-    CHANNEL_WINDOW_ADJUST = 93,
-    CHANNEL_DATA = 94,
-    CHANNEL_EXTENDED_DATA = 95,
-    CHANNEL_EOF = 96,
-    CHANNEL_CLOSE = 97,
-    CHANNEL_REQUEST = 98,
-    CHANNEL_SUCCESS = 99,
-    CHANNEL_FAILURE = 100
-};
-
 #define CONNECTION "ssh-connection"
 #define COMMAND "cat"
 #define WINDOW 4096     /* bytes that may be under way to us */
@@ -203,6 +183,7 @@ static bool take(void *of, span payload)
     show_message(s, "<-", message, payload.len);
     if (message >= CHANNEL_OPEN_CONFIRMATION && message <= CHANNEL_FAILURE) return take_of_channel(s, message, payload, rest);
     if (message == GLOBAL_REQUEST && s->stage > LOGIN) return take_global_request(s, payload, rest);
+    if ((message == REQUEST_SUCCESS || message == REQUEST_FAILURE) && s->stage > LOGIN) return true; /* nothing was asked, and nobody waits for it */
     if (message == USERAUTH_REQUEST && !s->client) return s->stage > LOGIN || take_login(s, payload, rest); /* behind a login it is passed over */
     if (message == CHANNEL_OPEN && !s->client && s->stage == OPENING) return take_open(s, payload, rest);
     if (s->client && s->stage == LOGIN) switch (message) {
@@ -210,9 +191,7 @@ static bool take(void *of, span payload)
         case USERAUTH_FAILURE: return trouble("the peer does not let %s in", s->set->user);
         case USERAUTH_SUCCESS: s->stage = OPENING; return owe(s, CHANNEL_OPEN);
         }
-    if (message < MESSAGES_OF_TRANSPORT || (message >= USERAUTH_REQUEST && message <= USERAUTH_BANNER)
-        || (message >= GLOBAL_REQUEST && message <= CHANNEL_OPEN)) return ill_formed(s, payload);
-    return link_unimplemented(s->link); /* RFC 4253, 11.4; it may go out also within an exchange */
+    return ill_formed(s, payload);
 }
 
 /* ---- what goes out */

@@ -1,4 +1,9 @@
 """Host keys and signatures in exact forms: each REPLY is valid but for one thing, so that nothing else can be why it is refused."""
+import sys
+
+if __name__ == "__main__":
+    sys.exit("forms.py is a part of live.py")
+
 import hashlib
 import os
 import socket
@@ -43,11 +48,16 @@ def ecdsa_forms():
     yield False, "r alone", signed(lambda r, s: number(r))
     yield False, "zeros", signed(lambda r, s: number(0) + number(0))
     yield False, "signature named for another curve", dict(signer=key, sign=lambda h: string(b"ecdsa-sha2-nistp384") + key.sign(h)[23:])
+    yield False, "blob of another curve's type", dict(signer=key, blob=string(b"ecdsa-sha2-nistp384") + curve + string(key.point))
     yield False, "blob with a byte more", dict(signer=key, blob=key.blob + b"\0")
     yield False, "blob with another curve", dict(signer=key, blob=name + string(b"nistp384") + string(key.point))
     yield False, "compressed point", dict(signer=key, blob=name + curve + string(key.compressed))
     yield False, "hybrid point", dict(signer=key, blob=name + curve + string(bytes([key.compressed[0] + 4]) + key.point[1:]))
     yield False, "point at infinity", dict(signer=key, blob=name + curve + string(b"\0"))
+
+
+def named(key, name, digest):
+    return dict(signer=key, sign=lambda h: string(name) + string(key.body(h, digest)))
 
 
 def rsa_forms(key, odd, small):
@@ -61,16 +71,35 @@ def rsa_forms(key, odd, small):
     yield False, "signature with the modulus added", dict(
         signer=key, sign=lambda h: name + string((int.from_bytes(body(h), "big") + key.n).to_bytes(key.size + 1, "big")))
     yield False, "signature with a byte more", dict(signer=key, sign=lambda h: key.sign(h) + b"\0")
-    yield False, "SHA-512 under the name of SHA-256", dict(signer=key, sign=lambda h: name + string(key.body(h, "sha512")))
-    yield False, "rsa-sha2-512 where rsa-sha2-256 is chosen", dict(
-        signer=key, sign=lambda h: string(b"rsa-sha2-512") + string(key.body(h, "sha512")))
-    yield False, "ssh-rsa, SHA-1", dict(signer=key, sign=lambda h: string(b"ssh-rsa") + string(key.body(h, "sha1")))
+    yield False, "rsa-sha2-512 where rsa-sha2-256 is chosen", named(key, b"rsa-sha2-512", "sha512")
+    yield False, "SHA-512 under the name of SHA-256", named(key, b"rsa-sha2-256", "sha512")
+    yield False, "SHA-256 under the name of SHA-512", named(key, b"rsa-sha2-512", "sha256")
+    yield False, "ssh-rsa, SHA-1", named(key, b"ssh-rsa", "sha1")
+    yield False, "ssh-rsa, SHA-256", named(key, b"ssh-rsa", "sha256")
     yield False, "blob with a byte more", dict(signer=key, blob=key.blob + b"\0")
     yield False, "blob named rsa-sha2-256", dict(signer=key, blob=name + e + n)
     yield False, "modulus without its sign byte", dict(signer=key, blob=string(b"ssh-rsa") + e + raw(key.n, key.size))
     yield False, "modulus with a zero too many", dict(signer=key, blob=string(b"ssh-rsa") + e + raw(key.n, key.size + 2))
     yield False, "modulus and exponent exchanged", dict(signer=key, blob=string(b"ssh-rsa") + n + e)
     yield False, "1,024 bits", dict(signer=small)
+
+
+def rsa_512_forms(key):
+    """Where rsa-sha2-512 is chosen, for a key of the same type."""
+    yield True, "as it is", named(key, b"rsa-sha2-512", "sha512")
+    yield False, "rsa-sha2-256", named(key, b"rsa-sha2-256", "sha256")
+    yield False, "ssh-rsa, SHA-1", named(key, b"ssh-rsa", "sha1")
+    yield False, "SHA-256 under the name of SHA-512", named(key, b"rsa-sha2-512", "sha256")
+    yield False, "SHA-512 under the name of SHA-256", named(key, b"rsa-sha2-256", "sha512")
+    yield False, "SHA-512 under the name ssh-rsa", named(key, b"ssh-rsa", "sha512")
+    yield False, "blob named rsa-sha2-512", dict(named(key, b"rsa-sha2-512", "sha512"), blob=string(b"rsa-sha2-512") + key.blob[11:])
+
+
+def other_types(keys, own):
+    """Keys of the types that were not chosen, whose signatures hold."""
+    for name, key in keys.items():
+        if name not in own:
+            yield False, f"a key and a signature of {name}", dict(signer=key)
 
 
 def play(host_key, how):
@@ -93,8 +122,13 @@ def all_forms(programs, dock):
     small = programs.path("small")
     if not os.path.exists(small):
         subprocess.run(["ssh-keygen", "-q", "-t", "rsa", "-b", "1024", "-N", "", "-C", "", "-f", small], check=True)
-    keys = Rsa.of_file(programs.key("rsa-sha2-256")), Rsa(*ODD_PRIMES), Rsa.of_file(small)
-    groups = [(b"ssh-ed25519", ed25519_forms()), (b"ecdsa-sha2-nistp256", ecdsa_forms()), (b"rsa-sha2-256", rsa_forms(*keys))]
+    rsa = Rsa.of_file(programs.key("rsa-sha2-256"))
+    others = {"ssh-ed25519": SIGNER, "ecdsa-sha2-nistp256": Ecdsa(b"seed"), "rsa-sha2-256": rsa}
+    groups = [(b"ssh-ed25519", ed25519_forms()), (b"ecdsa-sha2-nistp256", ecdsa_forms()), (b"rsa-sha2-512", rsa_512_forms(rsa)),
+              (b"rsa-sha2-256", rsa_forms(rsa, Rsa(*ODD_PRIMES), Rsa.of_file(small)))]
+    groups += [(name.encode(), other_types(others, own)) for name, own in (
+        ("ssh-ed25519", ("ssh-ed25519",)), ("ecdsa-sha2-nistp256", ("ecdsa-sha2-nistp256",)), ("ecdsa-sha2-nistp384", ()),
+        ("rsa-sha2-256", ("rsa-sha2-256",)), ("rsa-sha2-512", ("rsa-sha2-256",)))]
     count = 0
     with socket.create_server(("127.0.0.1", 0)) as listener:
         listener.settimeout(60)

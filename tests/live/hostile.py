@@ -4,15 +4,20 @@ A play sets `p.must` before the bytes that decide: FAULT (dock ends with DISCONN
 a DISCONNECT, or QUIET (no DISCONNECT: the peer went away, or the bytes are no SSH), and, where the bytes fix it, the core's number or a
 part of dock's line. Behind dock's NEWKEYS its DISCONNECT must open with the keys that the peer derived. Sessions of a kind are counted,
 and lists of cases are gone through in turn."""
+import sys
+
+if __name__ == "__main__":
+    sys.exit("hostile.py is a part of live.py")
+
 import os
 import random
 import socket
 import struct
 import time
 
-from peer import (ACCEPT, BASE_U, DEBUG, DISCONNECT, IGNORE, INIT, KEXINIT, NEWKEYS, PASSED_OVER, REPLY, REQUEST, SEALS, UNIMPLEMENTED, Closed,
-                  Ed25519, Peer, Unsealed, disconnect, ed25519_holds, exchange_hash, kexinit, packet, service, string, take_string, x25519)
-from programs import METHODS, Failure, need
+from peer import (ACCEPT, BASE_U, DEBUG, DISCONNECT, IGNORE, INIT, KEXINIT, NEWKEYS, PASSED_OVER, REPLY, REQUEST, SEALS, UNIMPLEMENTED, UNKNOWN,
+                  Closed, Ed25519, Peer, Unsealed, disconnect, ed25519_holds, exchange_hash, kexinit, packet, service, string, take_string, x25519)
+from programs import METHODS, Failure, need, unwarned
 
 FAULT, QUIET = "fault", "quiet"
 STRICT = b",kex-strict-%s-v00@openssh.com"
@@ -58,7 +63,8 @@ def flipped(rng, payload, bits=None):
 
 
 def renumbered(rng, payload):
-    return bytes([rng.choice([n for n in range(256) if n not in (*PASSED_OVER, DISCONNECT, payload[0])])]) + payload[1:]
+    """As another message, which is not passed over."""
+    return bytes([rng.choice([n for n in range(256) if n not in (*PASSED_OVER, *UNKNOWN, DISCONNECT, payload[0])])]) + payload[1:]
 
 
 def with_length(rng, payload, at):
@@ -130,6 +136,15 @@ def garbage_version(p, rng):
         (b"a line\r\n" * 9000, "version line"), (b"x" * 70000, "version line"), (rng.randbytes(rng.randrange(1, 600)), None)])
     p.must = QUIET, said
     p.send(data)
+
+
+def cut_disconnect(p, rng):
+    """With any words, and cut at every place."""
+    p.greet()
+    text = [b"", b"two\nlines\r\n", b"\x1b[2J%s%n\0", rng.randbytes(2000)]
+    payload = rng.case([disconnect(7, t) for t in text] + [disconnect(7, b"text")[:n] for n in range(1, 17)])
+    p.must = QUIET, "reason 7" if len(payload) >= 5 else "without a reason"
+    p.send(packet(payload))
 
 
 # ---- a hostile server, against dock's client
@@ -248,7 +263,7 @@ def changed_kexinit_of_server(change):
         p.send(OWN + b"\r\n" + packet(payload))
         p.v_c = p.version()
         p.i_s, p.i_c = payload, p.read()
-        if first in PASSED_OVER:
+        if first in (*PASSED_OVER, *UNKNOWN):
             p.send(packet(b"\x63"))
         p.c = p.read()[5:]
         # The change does not matter to the choice: what follows is a REPLY that does not hold, twice if the first is a wrong guess.
@@ -294,15 +309,7 @@ def words_then_wrong(p, rng):
         p.read()
         p.read()
         p.send(b"".join(packet(words(rng)) for _ in range(rng.randrange(20))))
-    p.send(packet(bytes([rng.case([0, 5, 6, 7, 21, 30, 32, 50, 99, 255])]) + rng.randbytes(rng.randrange(50))))
-
-
-def server_disconnects(p, rng):
-    p.greet()
-    text = [b"", b"two\nlines\r\n", b"\x1b[2J%s%n\0", rng.randbytes(2000)]
-    payload = rng.case([disconnect(7, t) for t in text] + [disconnect(7, b"text")[:n] for n in range(1, 17)])
-    p.must = QUIET, "reason 7" if len(payload) >= 5 else "without a reason"
-    p.send(packet(payload))
+    p.send(packet(bytes([rng.case([0, 5, 6, 21, 30, 32, 50, 82, 99, 255])]) + rng.randbytes(rng.randrange(50))))
 
 
 def no_newkeys(p, rng):
@@ -328,7 +335,7 @@ SERVERS = [
     (15, "KEXINIT refused", refused_kexinit),
     (18, "packet length", bad_packet_of_server(send_bad_length)), (10, "padding", bad_packet_of_server(send_bad_padding)),
     (18, "early close", server_closes), (22, "version line", garbage_version), (20, "words, then another message", words_then_wrong),
-    (20, "DISCONNECT", server_disconnects), (7, "no NEWKEYS", no_newkeys), (6, "nothing in common", nothing_in_common),
+    (20, "DISCONNECT", cut_disconnect), (7, "no NEWKEYS", no_newkeys), (6, "nothing in common", nothing_in_common),
 ]
 
 
@@ -433,7 +440,7 @@ CLIENTS = [
     (8, "KEXINIT cut", changed_kexinit_of_client(cut)), (16, "KEXINIT flipped", changed_kexinit_of_client(flipped)),
     (15, "KEXINIT refused", refused_kexinit),
     (18, "packet length", bad_packet_of_client(send_bad_length)), (10, "padding", bad_packet_of_client(send_bad_padding)),
-    (10, "early close", client_closes), (22, "version line", garbage_version), (7, "no NEWKEYS", no_newkeys),
+    (10, "early close", client_closes), (22, "version line", garbage_version), (20, "DISCONNECT", cut_disconnect), (7, "no NEWKEYS", no_newkeys),
     (6, "nothing in common", nothing_in_common),
 ]
 
@@ -441,7 +448,7 @@ CLIENTS = [
 # ---- one session
 
 def judge(must, code, out, err, p):
-    what, said = must
+    (what, said), err = must, unwarned(err)
     need(code == 1, f"exit {code} and not 1")
     need(len(err.splitlines()) == 1 and err.startswith("dock: ") and err.endswith("\n"), f"standard error is not one line: {err!r}")
     need(("NEWKEYS sent" in out) == p.past, f"it says that the exchange was {'not ' if p.past else ''}completed")
@@ -455,6 +462,8 @@ def judge(must, code, out, err, p):
     else:
         reason = 3 if what == FAULT else what
         need(last[:5] == disconnect(reason)[:5], f"it does not end with DISCONNECT, reason {reason} ({err.strip()})")
+        text = take_string(last[5:])[0]
+        need(text and last == disconnect(reason, text), "its DISCONNECT is not well-formed:", last)
     said = f"(number {said}: " if isinstance(said, int) else said or ""
     need(said in err, f"'{said}' expected: {err.strip()}")
 
@@ -471,7 +480,9 @@ def connected(play, p, rng):
 
 
 def against_client(dock, play, rng, listener, *options):
-    process = dock.start("client", "127.0.0.1", listener.getsockname()[1], "--timeout", 40, *options)
+    """Any host key is taken, where no known hosts are among the options: that its own form is wrong is then the only cause against it."""
+    trusting = () if "--known-hosts" in options else ("--insecure",)
+    process = dock.start("client", "127.0.0.1", listener.getsockname()[1], "--timeout", 40, *trusting, *options)
     p = Server(listener.accept()[0])
     connected(play, p, rng)
     return (p, *dock.end(process))

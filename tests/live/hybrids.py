@@ -5,7 +5,8 @@ itself.
 usage: hybrids.py --dock PROGRAM --suite FOLDER --libssh FOLDER --peer PROGRAM
 
 --suite: Debian's OpenSSH, PuTTY and the libcrypto that dock runs with; --libssh: Debian's libssh, which --peer (libssh_peer.c) runs with; both as
-tests/suite.sh leaves them. Prints a line for each part; exits 1 with one line at the first failure.
+tests/suite.sh leaves them (`make hybrids`). Prints a line for each part. Exits 0 where all passed, 1 with one line at the first failure, 2 where it is
+called wrongly.
 """
 import argparse
 import os
@@ -16,7 +17,7 @@ import tempfile
 sys.dont_write_bytecode = True
 import rekey
 from hostile import FAULT, LOW_ORDER, PUBLIC, Turn, against_server, changed_replies, init_of, judge
-from live import completed, known_hosts, part, serve_ssh
+from live import completed, part, serve_ssh
 from peer import Ecdsa
 from programs import METHODS, Dock, Failure, Programs, Unpacked, end_on_signals, free_port, later_exchanges, need
 
@@ -49,12 +50,12 @@ def command_line(programs, dock):
 
 def with_sshd(programs, dock, port):
     """9 with every kind of host key; and 9 where nothing is asked, because both sides prefer it."""
-    known = known_hosts(programs, port)
+    run = "client", "127.0.0.1", port, "--known-hosts", programs.known(port)
     host_keys = (ED25519, "ecdsa-sha2-nistp256", "ecdsa-sha2-nistp384", "ecdsa-sha2-nistp521", "rsa-sha2-256", "rsa-sha2-512")
     for host_key in host_keys:
-        answer = dock.run("client", "127.0.0.1", port, "--known-hosts", known, "--methods", METHODS[9], "--host-keys", host_key)
+        answer = dock.run(*run, "--methods", METHODS[9], "--host-keys", host_key)
         need(completed(answer, 9, host_key)["known"] == "yes", "known")
-    completed(dock.run("client", "127.0.0.1", port, "--host-keys", ED25519, *LONG_KEYS), 9, ED25519)
+    completed(dock.run(*run, "--host-keys", ED25519, *LONG_KEYS), 9, ED25519)
     changed = changed_replies(dock, "hybrids", port, times=24, pairs=[(9, ED25519)])
     allowed, options = programs.login(ED25519)
     limited = programs.sshd([*allowed, "RekeyLimit 16"], "sshd_16")
@@ -91,8 +92,8 @@ def with_libssh(programs, dock, peer):
         process = programs.start([*peer, "server", str(port), METHODS[method], programs.key(ED25519)], stdout=subprocess.PIPE,
                                  stderr=subprocess.PIPE)
         need(process.stdout.readline() == b"listening\n", "libssh does not listen")
-        known = programs.write("known_libssh", f"[127.0.0.1]:{port} {programs.public(ED25519)}\n")
-        found = completed(dock.run("client", "127.0.0.1", port, "--known-hosts", known, "--methods", METHODS[method], *LONG_KEYS), method, ED25519)
+        options = "--known-hosts", programs.known(port, ED25519), "--methods", METHODS[method], *LONG_KEYS
+        found = completed(dock.run("client", "127.0.0.1", port, *options), method, ED25519)
         need(found["known"] == "yes", "known", found["known"])
         err = process.communicate(timeout=60)[1].decode("ascii", "replace")
         programs.finished(process)
@@ -111,9 +112,9 @@ def with_dock(programs, dock):
     later = 0
     for method in HYBRIDS:
         process, port = dock.serve("--host-key", programs.key(ED25519), "--count", TIMES)
-        own = []
+        run, own = ("client", "127.0.0.1", port, "--known-hosts", programs.known(port), "--methods", METHODS[method]), []
         for _ in range(TIMES):
-            own.append(completed(dock.run("client", "127.0.0.1", port, "--methods", METHODS[method]), method, ED25519)["H"])
+            own.append(completed(dock.run(*run), method, ED25519)["H"])
         code, out, err = dock.end(process)
         need(code == 0, f"method {method}: {err.strip()}")
         theirs = [line[2:] for line in out.splitlines() if line.startswith("H ")]
@@ -156,15 +157,16 @@ def hostile_clients(programs, dock):
 
 
 def main():
-    options = argparse.ArgumentParser(description=__doc__.split("\n")[0])
+    options = argparse.ArgumentParser(description=__doc__, formatter_class=argparse.RawDescriptionHelpFormatter)
     for name in ("dock", "suite", "libssh", "peer"):
         options.add_argument(f"--{name}", required=True)
     options = options.parse_args()
     end_on_signals()
     with tempfile.TemporaryDirectory(prefix="hybrids-") as folder:
-        suite, libssh = Unpacked(options.suite), Unpacked(options.libssh)
-        programs = Programs(folder, suite)
+        programs = None
         try:
+            suite, libssh = Unpacked(options.suite), Unpacked(options.libssh)
+            programs = Programs(folder, suite)
             dock = Dock(programs, options.dock, suite)
             peer = libssh.command(os.path.abspath(options.peer))
             versions = [programs.ssh_version().split(",")[0], programs.run([*suite.command("usr/bin/plink"), "-V"])[1].split("\n")[0],
@@ -181,7 +183,8 @@ def main():
             print(f"hybrids: FAILED: {e}", file=sys.stderr)
             return 1
         finally:
-            programs.stop_all()
+            if programs:
+                programs.stop_all()
     return 0
 
 

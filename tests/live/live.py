@@ -3,13 +3,13 @@
 
 usage: live.py --dock PROGRAM [--dock-asan PROGRAM] [--dock-wrong PROGRAM] [--seed TEXT]
 
-Starts sshd and ssh itself, with keys and files in a temporary folder. Prints a line for each part; exits 1 with one line at the first
-failure. --dock-asan: the hostile peers meet this one, a build with sanitizers. --dock-wrong: a build with wrong_keys.c, whose keys must fail.
-Needs OpenSSH's client and server.
+Starts sshd and ssh itself, with keys and files in a temporary folder, all on the loopback, and needs both. Prints a line for each part, and takes a minute
+on two cores. --dock-asan: a build with sanitizers, which then meets the hostile peers. --dock-wrong: a build with wrong_keys.c, whose keys must fail; without
+it those parts are left out. Exits 0 where all passed, 1 with one line at the first failure, 2 where it is called wrongly.
 """
 import argparse
-import base64
 import concurrent.futures
+import os
 import re
 import socket
 import subprocess
@@ -18,11 +18,13 @@ import tempfile
 import time
 
 sys.dont_write_bytecode = True
+import asides
+import known
 import rekey
 from forms import all_forms
-from hostile import FAULT, OWN, PUBLIC, SIGNER, STRICT, Turn, against_client, against_server, all_sessions, changed_replies, judge, slow_peers
+from hostile import FAULT, OWN, PUBLIC, STRICT, Turn, against_client, against_server, all_sessions, changed_replies, judge, slow_peers
 from peer import DEBUG, IGNORE, INIT, NEWKEYS, REPLY, SEALS, UNIMPLEMENTED, kexinit, packet, string
-from programs import DIGESTS, METHODS, Dock, Failure, Programs, end_on_signals, logged, need, results
+from programs import DIGESTS, METHODS, Dock, Failure, Programs, end_on_signals, logged, need, results, unwarned
 from sealed import CIPHERS, MACS, SEALED, longest_word, served
 
 EXTRAS_C, STRICT_C = b",ext-info-c", b",ext-info-c" + STRICT % b"c"
@@ -38,11 +40,13 @@ def one_line(err, *parts):
     need(all(part in err for part in parts), f"{' and '.join(parts)} expected: {err.strip()}")
 
 
-def completed(answer, method, host_key):
-    """The results of an exchange that must be complete."""
+def completed(answer, method, host_key, x=False):
+    """The results of an exchange that must be complete. x: something of X was asked for."""
     code, out, err = answer
-    need(code == 0 and err == "", f"exit {code}: {err.strip()}")
+    need(code == 0, f"exit {code}: {err.strip()}")
     found = results(out)
+    need((unwarned(err) if found.get("known") == "NOT checked" else err) == "", "on standard error:", err.strip())
+    need(("X begins" in found) == x, "something of X is printed, or not:", out)
     need(found["method"] == f"{method} {METHODS[method]}", "method", found["method"])
     need(found["host key"].split()[0] == host_key, "host key", found["host key"])
     need(len(found["H"]) == 2 * DIGESTS[method], "H", found["H"])
@@ -51,20 +55,33 @@ def completed(answer, method, host_key):
 
 # ---- the command line
 
+def header_version():
+    with open(os.path.join(os.path.dirname(os.path.abspath(__file__)), "../../include/castulfrisa.h")) as f:
+        return re.search(r"^#define CASTULFRISA_VERSION (\d+)$", f.read(), re.M)[1]
+
+
 def command_line(programs, dock):
-    code, out, err = dock.run("--help")
-    need(code == 0 and out.startswith("usage: dock ") and err == "", "--help")
+    texts = [dock.run(*words) for words in (["--help"], ["-h"], ["client", "-h"], ["server", "1", "--help"])]
+    code, out, err = texts[0]
+    need(code == 0 and out.startswith("usage: dock ") and err == "" and texts == [texts[0]] * len(texts), "--help")
+    code, said, err = dock.run("--version")
+    need(code == 0 and err == "" and re.fullmatch(rf"dock, castulfrisa {header_version()} \(OpenSSL \d[^()\n]*\)\n", said), "--version:", said)
     hybrids = all(METHODS[method] in out for method in (7, 8, 9))
     need(hybrids != ("no hybrids: this libcrypto has no ML-KEM" in out), "--help on hybrids:", out)
+    server = "server", "0", "--host-key", programs.key(ED25519)  # all that it needs
     wrong = [(), ("neither",), ("client",), ("client", "h"), ("client", "h", "0"), ("client", "h", "65536"), ("client", "h", "1x"),
              ("server",), ("server", "0"), ("client", "h", "1", "more"), ("client", "h", "1", "--methods", "curve25519-sha256,"),
              ("client", "h", "1", "--methods", "diffie-hellman-group14-sha256"), ("client", "h", "1", "--host-keys", "ssh-dss"),
              ("client", "h", "1", "--count", "1"), ("client", "h", "1", "--timeout", "0"), ("client", "h", "1", "--timeout"),
-             ("server", "0", "--x-begins", "0"), ("server", "0", "--x-begins", "00zz"), ("server", "0", "--known-hosts", "f"),
-             ("client", "h", "1", "--ciphers", "aes192-ctr"), ("client", "h", "1", "--ciphers", ""), ("server", "0", "--ciphers", "aes128-ctr/"),
+             (*server, "--x-begins", "0"), (*server, "--x-begins", "00zz"), (*server, "--known-hosts", "f"),
+             ("client", "h", "1", "--ciphers", "aes192-ctr"), ("client", "h", "1", "--ciphers", ""), (*server, "--ciphers", "aes128-ctr/"),
              ("client", "h", "1", "--rekey", "x"), ("client", "h", "1", "--turns", "curve25519-sha256,,"), ("client", "h", "1", "--echo"),
-             ("client", "h", "1", "--key", programs.key("ssh-ed25519")), ("client", "h", "1", "--rekeyed", "1"), ("server", "0", "--login", "user"),
-             ("client", "h", "1", "--macs", "hmac-sha1"), ("client", "h", "1", "--macs", "hmac-sha2-256/hmac-sha2-512/hmac-sha2-512")]
+             ("client", "h", "1", "--key", programs.key("ssh-ed25519")), ("client", "h", "1", "--rekeyed", "1"), (*server, "--login", "user"),
+             ("client", "h", "1", "--macs", "hmac-sha1"), ("client", "h", "1", "--macs", "hmac-sha2-256/hmac-sha2-512/hmac-sha2-512"),
+             ("client", "h", "1", "--insecure", "--known-hosts", os.devnull), ("client", "h", "1", "--known-hosts", os.devnull, "--insecure"),
+             ("client", "h", "1", "--listen", "127.0.0.1"), (*server, "--insecure"), (*server, "--listen", "localhost"), (*server, "--listen", ""),
+             (*server, "--listen", "127.1"), (*server, "--listen", "::1%lo"),
+             ("client", "h", "1", "--x-begins", "00"), ("client", "h", "1", "--known-hosts", os.devnull, "--known-hosts", os.devnull)]
     if not hybrids:
         wrong += [("client", "h", "1", "--methods", METHODS[method]) for method in (7, 8, 9)]
     for arguments in wrong:
@@ -73,22 +90,17 @@ def command_line(programs, dock):
         one_line(err)
     nobody = programs.path("nobody")
     empty = programs.write("empty", "")
-    for arguments in [("client", "127.0.0.1", 1), ("client", "127.0.0.1", 1, "--known-hosts", nobody), ("server", 0, "--host-key", nobody),
-                      ("server", 0, "--host-key", empty), ("server", 0, "--host-key", programs.key("ssh-ed25519") + ".pub")]:
+    failing = [("client", "127.0.0.1", 1), ("client", "127.0.0.1", 1, "--known-hosts", nobody), ("server", 0, "--host-key", nobody),
+               ("server", 0, "--host-key", empty), ("server", 0, "--host-key", programs.key("ssh-ed25519") + ".pub"),
+               ("server", 0, "--host-key", programs.key("ssh-ed25519"), "--listen", "192.0.2.1"), ("client", "h" * 300, 1, "--known-hosts", empty)]
+    for arguments in failing:
         code, out, err = dock.run(*arguments)
         need(code == 1 and out == "", "exit", code, "of", arguments)
         one_line(err)
-    return f"{len(wrong) + 5} refused command lines"
+    return f"{len(wrong) + len(failing)} refused command lines"
 
 
 # ---- 1: client against sshd
-
-def known_hosts(programs, port):
-    lines = ["# a comment", "", f"|1|c2FsdA==|aGFzaA== {programs.public('ssh-ed25519')}", f"@revoked * {programs.public('ssh-ed25519')}"]
-    for host_key in ("ssh-ed25519", "ecdsa-sha2-nistp256", "ecdsa-sha2-nistp384", "ecdsa-sha2-nistp521", "rsa-sha2-256"):
-        lines.append(f"other.example,[127.0.0.1]:{port} {programs.public(host_key)} a comment")
-    return programs.write("known_hosts", "\n".join(lines) + "\n")
-
 
 def shown(out):
     """The lines of --show hold together: the room's filling is the sum of what went in."""
@@ -109,36 +121,19 @@ def shown(out):
 
 
 def as_client(programs, dock, port):
-    known = known_hosts(programs, port)
+    trusting = "--known-hosts", programs.known(port)
     pairs = [(1, "ssh-ed25519"), (2, "ecdsa-sha2-nistp256"), (4, "ecdsa-sha2-nistp384"), (5, "ecdsa-sha2-nistp521"), (6, "rsa-sha2-256"),
              (1, "rsa-sha2-512"), (4, "ssh-ed25519")]
     for method, host_key in pairs:
-        answer = dock.run("client", "127.0.0.1", port, "--known-hosts", known, "--methods", METHODS[method], "--host-keys", host_key)
+        answer = dock.run("client", "127.0.0.1", port, *trusting, "--methods", METHODS[method], "--host-keys", host_key)
         found = completed(answer, method, host_key)
         need(found["host key"] == f"{host_key} {programs.fingerprint(host_key)}", "fingerprint", found["host key"])
         need(found["known"] == "yes", "known", found["known"])
 
-    answer = dock.run("client", "localhost", port, "--methods", METHODS[1], "--show")
-    need(completed(answer, 1, "ssh-ed25519")["known"] == "not asked", "known without a file")
+    answer = dock.run("client", "127.0.0.1", port, *trusting, "--methods", METHODS[1], "--show", "--show-x")
+    completed(answer, 1, "ssh-ed25519", x=True)
     shown(answer[1])
-
-    right, other = programs.public("ssh-ed25519"), SIGNER.blob
-    wrong = "ssh-ed25519 " + base64.b64encode(other).decode()
-    ed25519 = ("--host-keys", "ssh-ed25519", "--methods", METHODS[1])
-    for text in (f"127.0.0.1 {right}\n", f"a,127.0.0.1,b {right}", f"127.0.0.1 {wrong}\n[127.0.0.1]:{port} {right}\n"):
-        answer = dock.run("client", "127.0.0.1", port, *ed25519, "--known-hosts", programs.write("known", text))
-        need(completed(answer, 1, "ssh-ed25519")["known"] == "yes", "known by", repr(text))
-    refused = [
-        (f"[127.0.0.1]:{port} {wrong}\n", "differs"), (f"127.0.0.1 {wrong}\n", "differs"),
-        (f"127.0.0.1 ssh-ed25519 {right.split()[1][:-4]}\n", "differs"), ("", "not known"), (f"#,127.0.0.1 {right}\n", "not known"),
-        (f"[127.0.0.1]:{port + 1} {right}\n", "not known"), (f"127.0.0.10 {right}\n", "not known"),
-        (f"@revoked 127.0.0.1 {right}\n", "not known"), (f"127.0.0.1 {programs.public('rsa-sha2-256')}\n", "not known")]
-    for text, why in refused:
-        code, out, err = dock.run("client", "127.0.0.1", port, *ed25519, "--known-hosts", programs.write("known", text))
-        need(code == 1 and out == "", "a host key that is not known: exit", code, "for", repr(text))
-        one_line(err, "(number 18: ", programs.fingerprint("ssh-ed25519"), why)
-    logged(programs, ":3: key exchange failed", count=len(refused))
-    return f"{len(pairs) + 4} exchanges, {len(refused)} refused host keys"
+    return f"{len(pairs) + 1} exchanges"
 
 
 # ---- 2 and 3: server for ssh
@@ -146,8 +141,7 @@ def as_client(programs, dock, port):
 def serve(programs, dock, method, host_key, file, *options, **of_ssh):
     """One connection for ssh: dock's answer, and what ssh says."""
     process, port = dock.serve("--host-key", file, *options)
-    known = programs.write(f"known_{port}", f"[127.0.0.1]:{port} {programs.public(host_key)}\n")
-    err = programs.ssh(port, method, host_key, known, **of_ssh)[2]
+    err = programs.ssh(port, method, host_key, programs.known(port, host_key), **of_ssh)[2]
     return dock.end(process), err
 
 
@@ -155,7 +149,7 @@ def serve_ssh(programs, dock, method, host_key, file, *options, **of_ssh):
     answer, err = serve(programs, dock, method, host_key, file, *options, **of_ssh)
     need(answer[0] == 0, f"method {method}, {host_key}: {answer[2].strip()} (ssh: {err.strip()})")
     need(":11: the service is accepted" in err, f"ssh does not read the DISCONNECT behind SERVICE_ACCEPT: {err.strip()}")
-    found = completed(answer, method, host_key)
+    found = completed(answer, method, host_key, x="--x-begins" in options)
     need(found["host key"].split()[1] == programs.fingerprint(host_key), "fingerprint", found["host key"])
     return found
 
@@ -170,13 +164,14 @@ def as_server(programs, dock):
     # two connections of one server with two keys; and dock with dock, in the method that this ssh does not have
     process, port = dock.serve("--host-key", programs.key("ssh-ed25519"), "--host-key", programs.key("rsa-sha2-512"), "--count", 2)
     for method, host_key in ((3, "rsa-sha2-256"), (6, "ssh-ed25519")):
-        completed(dock.run("client", "127.0.0.1", port, "--methods", METHODS[method], "--host-keys", host_key), method, host_key)
+        options = "--known-hosts", programs.known(port), "--methods", METHODS[method], "--host-keys", host_key
+        completed(dock.run("client", "127.0.0.1", port, *options), method, host_key)
     code, out, err = dock.end(process)
     need(code == 0 and out.count("NEWKEYS sent and received") == 2 and out.count("service") == 2, "two connections of one server:", err.strip())
 
     # NEWKEYS is the end where that is asked for
     process, port = dock.serve("--host-key", programs.key(ED25519), "--no-service")
-    for code, out, err in (dock.run("client", "127.0.0.1", port, "--no-service"), dock.end(process)):
+    for code, out, err in (dock.run("client", "127.0.0.1", port, "--known-hosts", programs.known(port), "--no-service"), dock.end(process)):
         need(code == 0 and err == "", "--no-service:", err.strip())
         results(out, service=False)
     return f"{len(cases)} exchanges with ssh, 3 with dock"
@@ -241,7 +236,7 @@ def guesses(programs, dock):
     first, second, ed25519 = b"curve25519-sha256", b"curve25519-sha256@libssh.org", b"ssh-ed25519"
     right = packet(bytes([INIT]) + string(PUBLIC))
     wrong = packet(bytes([INIT]) + string(bytes(31) + b"\1"))
-    junk = packet(b"\xff" + bytes(50))
+    junk = packet(b"\x22" + bytes(50))  # of another method
     etm, plain, etm_512, plain_512 = ([(cipher, mac)] * 2 for cipher, mac in zip(CIPHERS + CIPHERS[::-1], MACS))
     clients = [
         (2, client_play(second + b"," + first + STRICT_C, ed25519, True, wrong, seals=etm)),
@@ -267,10 +262,10 @@ def guesses(programs, dock):
         for i, (method, play) in enumerate(clients + servers):
             try:
                 if i < len(clients):
-                    p, *answer = against_server(dock, play, rng, "--host-key", programs.key("ssh-ed25519"))
+                    p, *answer = against_server(dock, play, rng, "--show-x", "--host-key", programs.key("ssh-ed25519"))
                 else:
-                    p, *answer = against_client(dock, play, rng, listener, "--host-keys", "ssh-ed25519,rsa-sha2-256")
-                found = completed(answer, method, "ssh-ed25519")
+                    p, *answer = against_client(dock, play, rng, listener, "--show-x", "--host-keys", "ssh-ed25519,rsa-sha2-256")
+                found = completed(answer, method, "ssh-ed25519", x=True)
                 need(found["H"] == p.h.hex(), "H", found["H"], "and not", p.h.hex())
                 need(found["X begins"] == p.x[:2].hex(), "X begins", found["X begins"])
                 need(p.holds, "the signature does not hold")
@@ -281,6 +276,7 @@ def guesses(programs, dock):
         # a guess is dropped once: the next bad packet is judged; a right guess is not dropped; and a strict exchange takes no words at all
         strict = "within a strict key exchange"
         refused = [(11, client_play(second + b"," + first, ed25519, True, wrong + junk)), (11, client_play(first, ed25519, True, junk)),
+                   (11, client_play(second + b"," + first, ed25519, True, packet(b"\xff"))),  # which is no guess
                    (strict, client_play(second + b"," + first + STRICT_C, ed25519, True, CLEAR_WORDS + junk)),
                    (strict, client_play(second + b"," + first + STRICT_C, ed25519, True, wrong + CLEAR_WORDS))]
         for said, play in refused:
@@ -306,18 +302,19 @@ def sealed_packets(programs, dock, port):
     ciphers, macs = [name.decode() for name in CIPHERS], [name.decode() for name in MACS]
     pairs = [((ciphers[i % 2], macs[i]), (ciphers[i // 2], macs[(i + 1) % 4])) for i in range(4)]
     since, count, key = len(programs.log()), 0, programs.key(ED25519)
+    run = "client", "127.0.0.1", port, "--known-hosts", programs.known(port), "--host-keys", ED25519
     for i, method in enumerate(OPENSSH):
         for j, pair in enumerate(pairs):
             strict = (i + j) % 3 != 0
             options = "--methods", METHODS[method], *seal_options(pair), *([] if strict else ["--no-strict"])
-            chosen(completed(dock.run("client", "127.0.0.1", port, "--host-keys", ED25519, *options), method, ED25519), pair, strict)
+            chosen(completed(dock.run(*run, *options), method, ED25519), pair, strict)
             chosen(serve_ssh(programs, dock, method, ED25519, key, *options), pair, strict)
             count += 1
 
     # the client's order counts, also where it is not dock's
     ciphers, macs = ",".join(ciphers[::-1]), ",".join(macs[::-1])
     pair = (("aes128-ctr", "hmac-sha2-512"),) * 2
-    chosen(completed(dock.run("client", "127.0.0.1", port, "--host-keys", ED25519, "--ciphers", ciphers, "--macs", macs), 1, ED25519), pair, True)
+    chosen(completed(dock.run(*run, "--ciphers", ciphers, "--macs", macs), 1, ED25519), pair, True)
     chosen(serve_ssh(programs, dock, 1, ED25519, key, Ciphers=ciphers, MACs=macs), pair, True)
     logged(programs, ":11: the service was accepted", since, count + 1)
     return f"{count + 1} exchanges with sshd, {count + 1} with ssh"
@@ -340,7 +337,8 @@ def wrong_keys(programs, dock, port):
             if serves:
                 (code, out, err), of_ssh = serve(programs, wrong, 1, ED25519, programs.key(ED25519), *seal_options(pair))
             else:
-                code, out, err = wrong.run("client", "127.0.0.1", port, "--methods", METHODS[1], "--host-keys", ED25519, *seal_options(pair))
+                code, out, err = wrong.run("client", "127.0.0.1", port, "--known-hosts", programs.known(port), "--methods", METHODS[1], "--host-keys",
+                                           ED25519, *seal_options(pair))
             going, coming = how in ("BDF" if serves else "ACE"), how in ("ACE" if serves else "BDF")
             try:
                 if how == "right":
@@ -373,11 +371,11 @@ def part(name, work, *arguments, of="live"):
 
 
 def main():
-    options = argparse.ArgumentParser(description=__doc__.split("\n")[0])
+    options = argparse.ArgumentParser(description=__doc__, formatter_class=argparse.RawDescriptionHelpFormatter)
     options.add_argument("--dock", required=True)
-    options.add_argument("--dock-asan", help="dock under the sanitizers, which then meets the hostile peers")
-    options.add_argument("--dock-wrong", help="dock with wrong_keys.c")
-    options.add_argument("--seed", default="live")
+    options.add_argument("--dock-asan")
+    options.add_argument("--dock-wrong")
+    options.add_argument("--seed", default="live", help="of the hostile peers")
     options = options.parse_args()
     began = time.monotonic()
     end_on_signals()
@@ -396,6 +394,9 @@ def main():
                     part("1, client against sshd", as_client, programs, dock, sshd)
                     part("2, server for ssh", as_server, programs, dock)
                     part("5, guessed packets", guesses, programs, dock)
+                    part("12, where a server listens", known.listening, programs, dock)
+                    part("12, first contact", known.first_contact, programs, dock, sshd)
+                    part("12, preferred host keys", known.preferred, programs, dock, sshd)
                     part("6, sealed packets", sealed_packets, programs, dock, sshd)
                     part("8, later exchanges with OpenSSH", rekey.with_openssh, programs, dock)
                     if options.dock_wrong:
@@ -403,6 +404,9 @@ def main():
                         part("7, wrong keys", wrong_keys, programs, wrong, sshd)
                         part("9, keys of another identifier", rekey.wrong_identifiers, programs, wrong)
                     checked, how = (Dock(programs, options.dock_asan), ", under the sanitizers") if options.dock_asan else (dock, "")
+                    part(f"12, known hosts{how}", known.known_lines, programs, dock, checked, sshd)
+                    part("12, known hosts at port 22", known.default_port, programs, dock)
+                    part(f"13, words at any time{how}", asides.in_both_roles, programs, checked)
                     part(f"10, exact peers in later exchanges{how}", rekey.exact_peers, programs, checked)
                     part(f"11, hostile peers in later exchanges{how}", rekey.hostile_peers, programs, checked, options.seed)
                     part(f"4, hostile peers{how}", hostile_peers, programs, checked, options.seed, sshd)

@@ -1,6 +1,11 @@
 """A small SSH peer for the tests, written from the RFCs and sharing nothing with the core: version lines, packets in the clear and sealed
 behind NEWKEYS, KEXINIT, INIT and REPLY of the curve25519 methods, X25519 (RFC 7748), H, the keys, AES (FIPS 197), and host keys that sign:
 Ed25519 (RFC 8032), ECDSA with P-256 (FIPS 186), RSA (RFC 8017)."""
+import sys
+
+if __name__ == "__main__":
+    sys.exit("peer.py is a part of live.py")
+
 import base64
 import hashlib
 import hmac
@@ -9,6 +14,8 @@ import struct
 
 DISCONNECT, IGNORE, UNIMPLEMENTED, DEBUG, REQUEST, ACCEPT, KEXINIT, NEWKEYS, INIT, REPLY = 1, 2, 3, 4, 5, 6, 20, 21, 30, 31
 PASSED_OVER = (IGNORE, UNIMPLEMENTED, DEBUG)
+# numbers that mean nothing to dock (RFC 4250, 4.1): among those that an exchange may have in it, and behind them
+UNKNOWN, UNKNOWN_ABOVE = (*range(7, 20), *range(22, 30)), (*range(54, 80), *range(83, 90), *range(101, 256))
 
 
 # ---- wire
@@ -55,6 +62,10 @@ def service(message, name=b"ssh-userauth"):
 
 def disconnect(reason, text=b""):
     return bytes([DISCONNECT]) + struct.pack(">I", reason) + string(text) + string(b"")
+
+
+def unimplemented(number):
+    return bytes([UNIMPLEMENTED]) + struct.pack(">I", number)
 
 
 class Closed(Exception):

@@ -1,4 +1,9 @@
 """What the live tests start: dock, sshd and ssh, each with files in one temporary folder, and nothing left running at the end."""
+import sys
+
+if __name__ == "__main__":
+    sys.exit("programs.py is a part of live.py")
+
 import base64
 import copy
 import os
@@ -9,7 +14,6 @@ import shutil
 import signal
 import socket
 import subprocess
-import sys
 import sysconfig
 import threading
 import time
@@ -155,6 +159,10 @@ class Programs:
             subprocess.run(["ssh-keygen", "-q", "-p", "-m", "PKCS8", "-N", "", "-f", path], check=True, stdout=subprocess.DEVNULL)
         return path
 
+    def known(self, port, *host_keys):
+        """A file of known hosts: these keys, or all, for a port of the loopback."""
+        return self.write(f"known_{port}", "".join(f"[127.0.0.1]:{port} {self.public(host_key)}\n" for host_key in host_keys or HOST_KEYS))
+
     def fingerprint(self, host_key):
         return subprocess.run(["ssh-keygen", "-l", "-f", self.key(host_key) + ".pub"], check=True, capture_output=True,
                               text=True).stdout.split()[1]
@@ -247,9 +255,9 @@ class Dock:
     def start(self, *arguments):
         return self.programs.start([*self.command, *map(str, arguments)], env=self.env, stdout=subprocess.PIPE, stderr=subprocess.PIPE)
 
-    def serve(self, *arguments):
-        """A server on a free port: the process and the port."""
-        process = self.start("server", 0, *arguments)
+    def serve(self, *arguments, port=0):
+        """A server on this port, or on a free one: the process and the port."""
+        process = self.start("server", port, *arguments)
         line = process.stdout.readline().decode()
         if not line.startswith("listening on "):
             raise Failure("dock server: " + process.communicate()[1].decode("ascii", "replace").strip())
@@ -268,6 +276,11 @@ class Dock:
             raise Failure(f"dock: no end after {seconds} s") from None
         self.programs.finished(process)
         return process.returncode, out.decode("ascii", "replace"), err.decode("ascii", "replace")
+
+
+def unwarned(err):
+    """Standard error without what --insecure makes dock say, once; all else stays."""
+    return re.sub(r"^dock: host key NOT checked: [a-z0-9-]+ SHA256:[A-Za-z0-9+/]{43}\n", "", err, count=1, flags=re.M)
 
 
 DIGESTS = {1: 32, 2: 32, 3: 64, 4: 32, 5: 48, 6: 64, 7: 32, 8: 48, 9: 32}
@@ -296,7 +309,8 @@ def later_exchanges(out):
 
 
 def results(out, service=True):
-    """The lines of a completed exchange, and of the service behind it, by name; fails on any line more or less. Lines of --show are left out."""
+    """The lines of a completed exchange, and of the service behind it, by name; fails on any line more or less, but for X, which is there where it
+    was asked for. Lines of --show are left out."""
     names = ["method", "H", "exchange", "host key", "known", "X begins", "to server", "to client", "strict", "NEWKEYS"] + ["service"] * service
     found = {}
     for line in out.splitlines():
@@ -308,5 +322,5 @@ def results(out, service=True):
     need(found.get("NEWKEYS") == "sent and received", "no NEWKEYS in the output")
     need(found.get("exchange") == f"1 identifier {found.get('H')}", "the identifier is not H:", out)
     need(not service or found.get("service") == "ssh-userauth", "no service in the output")
-    need(set(found) | {"known"} == set(names), "lines missing in the output")
+    need(set(found) | {"known", "X begins"} == set(names), "lines missing in the output")
     return found

@@ -1,5 +1,10 @@
 """Later exchanges of one connection: with OpenSSH, asked for by either side in the middle of data; with keys of another identifier, which must
 fail; with peers of our own that are exact about what may come between KEXINIT and NEWKEYS (RFC 4253, 7.1, 9 and 11), and with hostile ones."""
+import sys
+
+if __name__ == "__main__":
+    sys.exit("rekey.py is a part of live.py")
+
 import concurrent.futures
 import copy
 import itertools
@@ -10,8 +15,8 @@ import struct
 
 from hostile import FAULT, KEX, LOW_ORDER, QUIET, SIGNER, Turn, against_client, against_server, cut, init, judge, longer, words
 from peer import (ACCEPT, DEBUG, IGNORE, INIT, KEXINIT, NEWKEYS, REPLY, REQUEST, SEALS, UNIMPLEMENTED, Ed25519, disconnect, ed25519_holds, kexinit,
-                  packet, service, string, take_string)
-from programs import METHODS, Failure, later_exchanges, logged, need, results
+                  packet, service, string, take_string, unimplemented)
+from programs import METHODS, Failure, later_exchanges, logged, need, results, unwarned
 from sealed import CIPHERS, MACS, PROTOCOL_ERROR, mac_of, not_opened
 
 LEAST = 50  # exchanges behind the first, in one connection
@@ -45,7 +50,8 @@ def night(answer, method, turns, by=None):
 def client_run(dock, port, way, options, *asking, each=None):
     """each: is given each line of dock's as it comes."""
     method, turns, more = way
-    process = dock.start("client", "127.0.0.1", port, "--methods", METHODS[method], "--turns", names(turns), *more, *options, *asking)
+    known = "--known-hosts", dock.programs.known(port, ED25519)
+    process = dock.start("client", "127.0.0.1", port, *known, "--methods", METHODS[method], "--turns", names(turns), *more, *options, *asking)
     return dock.end(process, each=each)
 
 
@@ -54,10 +60,9 @@ def server_run(programs, dock, way, size, *asking, each=None, **of_ssh):
     method, turns, more = way
     text = random.Random(size).randbytes((size + 1) // 2).hex()[:size]
     process, port = dock.serve("--host-key", programs.key(ED25519), "--methods", METHODS[method], "--turns", names(turns), "--echo", *more, *asking)
-    known = programs.write(f"known_{port}", f"[127.0.0.1]:{port} {programs.public(ED25519)}\n")
     of_ssh = {"KexAlgorithms": names((method, *turns)), **of_ssh}
     with concurrent.futures.ThreadPoolExecutor(1) as beside:  # dock writes while ssh runs
-        ssh = beside.submit(programs.ssh, port, method, ED25519, known, programs.write(f"text_{port}", text), **of_ssh)
+        ssh = beside.submit(programs.ssh, port, method, ED25519, programs.known(port, ED25519), programs.write(f"text_{port}", text), **of_ssh)
         return dock.end(process, each=each), ssh.result(), text
 
 
@@ -78,8 +83,7 @@ def with_openssh(programs, dock):
     """Four ways, each twice; and both sides asking, so that KEXINITs may cross."""
     allowed, options = programs.login(ED25519)
     ports = {limit: programs.sshd(allowed + [f"RekeyLimit {limit}"], f"sshd_{limit}") for limit in ("default", "16", "1K")}
-    known = programs.write("known_later", "".join(f"[127.0.0.1]:{port} {programs.public(ED25519)}\n" for port in ports.values()))
-    options, runs = [*options, "--known-hosts", known], []
+    runs = []
     for way in WAYS:
         runs += [
             as_client(dock, ports["default"], way, options, "--rekey", LEAST, by="us"),
@@ -132,7 +136,9 @@ def wrong_identifiers(programs, dock):
 
 # ---- exact peers
 
-SUCCESS, BANNER, LOGIN, GLOBAL, GLOBAL_NO, OPEN, OPENED, ADJUST, DATA, EOF, CLOSE, ASKED, YES = 52, 53, 50, 80, 82, 90, 91, 93, 94, 96, 97, 98, 99
+SUCCESS, BANNER, LOGIN, GLOBAL, GLOBAL_YES, GLOBAL_NO, OPEN, OPENED, ADJUST, DATA, EOF, CLOSE, ASKED, YES = (
+    52, 53, 50, 80, 81, 82, 90, 91, 93, 94, 96, 97, 98, 99)
+ASIDE_MOST = 8192  # as dock.h has it: bytes of messages that are set aside, with four more for each
 WORDS = bytes([IGNORE]) + string(b"words"), bytes([DEBUG, 1]) + string(b"text") + string(b""), bytes([UNIMPLEMENTED]) + b"\xff" * 4
 
 
@@ -335,19 +341,25 @@ def under_way(p, rng):
         say(p, data(0, sent[:100]), *WORDS, bytes([200]), data(0, sent[100:250]), bytes([GLOBAL]) + string(b"any") + b"\1", bytes([ADJUST]) + u32(0, 50))
     else:
         say(p, data(0, b"under "), *WORDS, bytes([200]), data(0, b"way"), bytes([GLOBAL]) + string(b"any") + b"\1", bytes([ADJUST]) + u32(0, 50))
-    need(p.read() == bytes([UNIMPLEMENTED]) + u32(p.closes.sequence - 4), "no UNIMPLEMENTED for the message that nobody knows")
+    need(p.read() == unimplemented(p.closes.sequence - 4), "no UNIMPLEMENTED for the message that nobody knows")
     kexinits(p, theirs=theirs)
     turned(p, WORDS)
+    all_back(p, sent, 250, b"under way")
+
+
+def all_back(p, sent, back, text):
+    """The answer to the one request, then the rest of the data and the end of the channel. back: how many of dock's bytes it has again; text: this
+    side's, which dock is to send back."""
     need(p.read() == bytes([GLOBAL_NO]), "no answer to the request behind NEWKEYS")
     if p.serves:
-        sent += take_string(p.read()[5:])[0]
+        sent += b"" if len(sent) == 600 else take_string(p.read()[5:])[0]
         need(len(sent) == 600, "not as many data as go out at a time")
-        say(p, data(0, sent[250:]))
+        say(p, data(0, sent[back:]))
         need(p.read() == bytes([EOF]) + u32(9), "no EOF")
         say(p, bytes([EOF]) + u32(0), bytes([ASKED]) + u32(0) + string(b"exit-status") + b"\0" + u32(0), bytes([CLOSE]) + u32(0))
         need(p.read() == bytes([CLOSE]) + u32(9), "no CLOSE")
     else:
-        need(p.read() == data(7, b"under way"), "what was under way does not come back")
+        need(p.read() == data(7, text), "what was sent does not come back")
         say(p, bytes([EOF]) + u32(0))
         need(p.read() == bytes([EOF]) + u32(7) and p.read() == bytes([ASKED]) + u32(7) + string(b"exit-status") + b"\0" + u32(0)
              and p.read() == bytes([CLOSE]) + u32(7), "no end")
@@ -356,13 +368,56 @@ def under_way(p, rng):
     p.done = True
 
 
+def set_aside(p, rng):
+    """Messages that are no exchange's come behind this side's KEXINIT: ahead of INIT or REPLY, and of a wrong guess, and ahead of NEWKEYS. They are
+    taken in their order, when NEWKEYS has gone by; but a number that nobody knows is answered at once."""
+    begun(p, rng.turn % 2 == 0)
+    sent = logged_in(p)
+    theirs = their_kexinit(p)
+    parts = [sent[:100], sent[100:120], sent[120:250]] if p.serves else [b"set", b" ", b"aside"]
+    first, second, third = (data(0, part) for part in parts)
+    no, request = bytes([GLOBAL_NO]), bytes([GLOBAL]) + string(b"any") + b"\1"
+    if rng.turn % 2:
+        kexinits(p, kexinit(SECOND_FIRST, b"ssh-ed25519", True), [no, b"\x22" + bytes(50), first], theirs)
+    else:
+        kexinits(p, theirs=theirs, behind=[no, first])
+    say(p, bytes([200]), second)
+    need(p.read() == unimplemented(p.closes.sequence - 2), "no UNIMPLEMENTED for the message that nobody knows")
+    message(p, [no])
+    say(p, third, request, no, bytes([NEWKEYS]))
+    p.closes = new_keys(p)[1]
+    all_back(p, sent, 250, b"set aside")
+
+
+def set_aside_most(p, rng):
+    """As much as there is room for, within each of two exchanges: what was taken leaves its room to others."""
+    begun(p)
+    sent = logged_in(p)
+    for theirs in (their_kexinit(p), None):
+        kexinits(p, theirs=theirs, behind=filling())
+        turned(p)
+        if p.serves and theirs:
+            sent += take_string(p.read()[5:])[0]
+    say(p, bytes([GLOBAL]) + string(b"any") + b"\1", data(0, sent[:250] if p.serves else b"all of it"))
+    all_back(p, sent, 250, b"all of it")
+
+
+def filling():
+    """Answers that nobody waits for, which fill the room for what is set aside."""
+    first = bytes([GLOBAL_YES]) + bytes(4000)
+    return [first, bytes([GLOBAL_NO]), bytes([GLOBAL_YES]) + bytes(ASIDE_MOST - len(string(first)) - 5 - 5)]
+
+
 SECOND_FIRST = b"curve25519-sha256@libssh.org,curve25519-sha256"
 EXACT = [
     ("words, strict", they_ask(True, WORDS)), ("words", they_ask(False, WORDS)), ("many", they_ask(True, times=5)),
-    ("strict too late", strict_too_late), ("wrong guess", guessed(SECOND_FIRST, b"\xff" + bytes(50))), ("right guess", guessed_right),
+    ("strict too late", strict_too_late), ("wrong guess", guessed(SECOND_FIRST, b"\x22" + bytes(50))), ("right guess", guessed_right),
     ("dock asks", dock_asks, "--rekey", 2), ("both ask", both_ask, "--rekey", 1),
     ("under way, strict", under_way, "--rekey", 1), ("under way", under_way, "--rekey", 1),
+    ("set aside, strict", set_aside, "--rekey", 1), ("set aside", set_aside, "--rekey", 1),
+    ("set aside, as much as may be", set_aside_most, "--rekey", 1),
 ]
+FLOWING = under_way, set_aside, set_aside_most
 
 
 def options_of(programs, flowing, serves):
@@ -376,13 +431,14 @@ def exact_peers(programs, dock):
         listener.settimeout(60)
         for i, (name, play, *more) in enumerate(EXACT):
             for serves in (False, True):
-                options = *options_of(programs, play is under_way, serves), *more
+                options = *options_of(programs, play in FLOWING, serves), *more
                 try:
                     if serves:
                         p, code, out, err = against_server(dock, play, Turn("exact", i), *options)
                     else:
                         p, code, out, err = against_client(dock, play, Turn("exact", i), listener, *options)
-                    need(code == 0 and err == "", f"exit {code}: {err.strip()}")
+                    need(code == 0 and (err if serves else unwarned(err)) == "", f"exit {code}: {err.strip()}")
+                    need(serves or err != "", "no word of a host key that was not checked")
                     need(p.done, "it ended before its good-bye")
                     rest, later = later_exchanges(out)
                     need(f"exchange 1 identifier {p.id.hex()}\n" in rest, "another identifier")
@@ -401,15 +457,28 @@ def in_exchange(p, rng, seals=None):
 
 
 def not_due(p, rng):
-    """Where INIT or REPLY is due, or where NEWKEYS is: data, a second KEXINIT, NEWKEYS ahead of time, a service, the other side's message."""
+    """Where INIT or REPLY is due, or where NEWKEYS is: a second KEXINIT, NEWKEYS ahead of time, a service, the other side's message."""
     in_exchange(p, rng)
     late, other = rng.turn % 2, bytes([INIT if p.serves else REPLY]) + string(bytes(32))
-    payloads = [data(0, b"data"), kexinit(KEX, b"ssh-ed25519"), bytes([NEWKEYS, 0]) if late else bytes([NEWKEYS]), p.due, other, bytes([GLOBAL, 0]),
-                bytes([SUCCESS]), bytes([255]), bytes([0])]
+    payloads = [kexinit(KEX, b"ssh-ed25519"), bytes([NEWKEYS, 0]) if late else bytes([NEWKEYS]), p.due, service(REQUEST if p.serves else ACCEPT), other,
+                bytes([49]), bytes([0])]
     if late:
         message(p)
     p.must = FAULT, "where NEWKEYS is due" if late else 11
     say(p, payloads[rng.turn // 2 % len(payloads)])
+
+
+def set_aside_not_due(p, rng):
+    """What is set aside is judged when NEWKEYS has gone by, where only the service is due; and there is room for so much."""
+    in_exchange(p, rng)
+    payload = rng.case([data(0, b"data"), bytes([GLOBAL_NO]), bytes([SUCCESS]), bytes([GLOBAL, 0]), b""])
+    if payload:
+        message(p, [payload])
+        p.must = PROTOCOL_ERROR, f"message {payload[0]} of {len(payload)} bytes where SERVICE_{'ACCEPT' if p.serves else 'REQUEST'} is due"
+        say(p, bytes([NEWKEYS]))
+    else:
+        p.must = FAULT, f"more than {ASIDE_MOST} bytes of other messages within a key exchange"
+        say(p, *filling(), bytes([GLOBAL_NO]))
 
 
 def rubbish_kexinit(p, rng):
@@ -504,8 +573,8 @@ def between_data(p, rng):
     request, own = bytes([GLOBAL]) + string(b"any") + b"\1", kexinit(KEX, b"ssh-ed25519")
     not_due = PROTOCOL_ERROR, "is not well-formed or not due"
     payloads, p.must = rng.case([
-        ([own, data(0, b"data")], (FAULT, 11)), ([own, bytes([ADJUST]) + u32(0, 1)], (FAULT, 11)), ([own, own], (FAULT, 11)),
-        ([own, bytes([NEWKEYS])], (FAULT, 11)), ([own, request], (FAULT, 11)),
+        ([own, data(0, b"data"), own], (FAULT, 11)), ([own, bytes([ADJUST]) + u32(0, 1), service(REQUEST)], (FAULT, 11)), ([own, own], (FAULT, 11)),
+        ([own, bytes([NEWKEYS])], (FAULT, 11)), ([own, request, *filling()], (FAULT, f"more than {ASIDE_MOST} bytes")),
         ([data(0, bytes(4097))], (PROTOCOL_ERROR, "4097 bytes of data where")), ([data(1, b"data")], not_due), ([bytes([DATA]) + u32(0, 5)], not_due),
         ([request] * 40, (PROTOCOL_ERROR, "more than 32 requests")), ([bytes([NEWKEYS])], not_due), ([service(REQUEST)], not_due), ([init()], not_due),
         ([bytes([OPEN]) + string(b"session") + u32(1, 1, 1)], not_due), ([bytes([ADJUST]) + u32(0, 2**32 - 1)], not_due), ([b""], not_due),
@@ -528,9 +597,9 @@ def no_good_bye(p, rng):
 
 # how often, name, play, dock's further options
 HOSTILE = [
-    (18, "not due", not_due), (12, "KEXINIT of rubbish", rubbish_kexinit), (6, "another host key", other_host_key), (5, "message changed", changed_message),
-    (16, "another seal", other_seal), (4, "goes away", goes_away), (5, "no KEXINIT", no_kexinit, "--rekey", 1),
-    (18, "between data", between_data, "--rekey", 1), (3, "no good-bye", no_good_bye),
+    (14, "not due", not_due), (5, "set aside, not due", set_aside_not_due), (12, "KEXINIT of rubbish", rubbish_kexinit),
+    (6, "another host key", other_host_key), (5, "message changed", changed_message), (16, "another seal", other_seal), (4, "goes away", goes_away),
+    (5, "no KEXINIT", no_kexinit, "--rekey", 1), (18, "between data", between_data, "--rekey", 1), (3, "no good-bye", no_good_bye),
 ]
 ONLY = {other_host_key: False, no_good_bye: True}  # whether dock must be the server
 

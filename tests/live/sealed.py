@@ -1,9 +1,14 @@
 """Peers behind NEWKEYS, and within a strict key exchange: packets that were changed, left out, sent twice or sealed with other keys, and packets
 that are sealed right and are not due. All of it in both roles; ciphers, MACs and counts go round."""
+import sys
+
+if __name__ == "__main__":
+    sys.exit("sealed.py is a part of live.py")
+
 import copy
 
 from hostile import FAULT, KEX, OWN, QUIET, words
-from peer import ACCEPT, IGNORE, NEWKEYS, REQUEST, disconnect, kexinit, packet, service, string
+from peer import ACCEPT, IGNORE, NEWKEYS, REQUEST, UNKNOWN, disconnect, kexinit, packet, service, string
 from programs import need
 
 CIPHERS = [b"aes256-ctr", b"aes128-ctr"]
@@ -141,7 +146,7 @@ def bad_padding(p, rng):
 def not_due(p, rng):
     other = service(REQUEST if p.serves else ACCEPT)
     payloads = [b"", p.due[:1], p.due[:-1], p.due + b"\0", other, bytes([0]) + p.due[1:], bytes([NEWKEYS]), bytes([NEWKEYS, 0]),
-                bytes([7]) + bytes(4), bytes([30]) + string(bytes(32)), bytes([50]), bytes([255])]
+                bytes([30]) + string(bytes(32)), bytes([49]), bytes([50]), bytes([82])]
     p.must = PROTOCOL_ERROR, "is due"
     p.send(p.closes.close(rng.case(payloads)))
 
@@ -152,8 +157,10 @@ def other_service(p, rng):
 
 
 def disconnects(p, rng):
-    p.must = QUIET, "reason 7, ??"
-    p.send(p.closes.close(words(rng)) + p.closes.close(disconnect(7, b"\x1b\n")))
+    payload, said = rng.case([(disconnect(7, b"\x1b\n"), "reason 7, ??"), (disconnect(7)[:1], "without a reason"), (disconnect(7)[:4], "without a reason"),
+                              (disconnect(7)[:5], "reason 7"), (disconnect(7)[:5] + b"\xff" * 4, "reason 7"), (disconnect(7, b"text")[:11], "reason 7")])
+    p.must = QUIET, said
+    p.send(p.closes.close(words(rng)) + p.closes.close(payload))
 
 
 def closes(p, rng):
@@ -165,12 +172,13 @@ def closes(p, rng):
 # ---- within a strict key exchange
 
 def words_in_strict(p, rng):
-    """Ahead of KEXINIT, of INIT or REPLY, and of NEWKEYS."""
-    seals, place = ((b"aes128-ctr", rng.choice(MACS)),) * 2, rng.turn % 3
+    """Ahead of KEXINIT, of INIT or REPLY, and of NEWKEYS; and likewise a message that nobody knows, or one that is not the transport's."""
+    seals, place, kind = ((b"aes128-ctr", rng.choice(MACS)),) * 2, rng.turn % 3, rng.turn // 3 % 3
+    word = (words(rng), bytes([rng.choice(UNKNOWN)]), bytes([rng.choice([50, 82, 94, 255])]))[kind]
     own = kexinit(KEX + p.strict_name, b"ssh-ed25519", seals=seals)
     if place == 0:
-        p.must = FAULT, "not the first packet of a strict key exchange"
-        p.send(OWN + b"\r\n" + packet(words(rng)) + packet(own))
+        p.must = FAULT, 11 if kind == 2 else "not the first packet of a strict key exchange"
+        p.send(OWN + b"\r\n" + packet(word) + packet(own))
         p.version()
         p.read()
         p.read()
@@ -179,8 +187,9 @@ def words_in_strict(p, rng):
     if place == 2:
         p.answer()
         p.seal(False, True, seals)
-    word = words(rng)
     p.must = FAULT, f"message {word[0]} within a strict key exchange"
+    if kind == 2:
+        p.must = FAULT, 11 if place == 1 else "where NEWKEYS is due"
     p.send(packet(word))
 
 
@@ -189,5 +198,5 @@ SEALED = [
     (5, "counted otherwise", behind(counted_otherwise)), (4, "sent twice", behind(sent_twice)), (4, "left out", behind(left_out)),
     (6, "other keys", behind(other_keys)), (4, "in the clear", behind(in_the_clear)), (11, "packet length", behind(bad_length)),
     (7, "padding", behind(bad_padding)), (12, "not due", behind(not_due)), (5, "another service", behind(other_service)),
-    (4, "DISCONNECT", behind(disconnects)), (8, "early close", behind(closes)), (6, "words in a strict exchange", words_in_strict),
+    (6, "DISCONNECT", behind(disconnects)), (8, "early close", behind(closes)), (9, "words in a strict exchange", words_in_strict),
 ]

@@ -6,7 +6,7 @@ usage: soak.py --dock PROGRAM [--count N] [--later N] [--workers N]
 
 Every exchange must be completed: a K with a zero too many or too few makes another H, and the server's signature fails. Counts the
 X that begin with 00, which are the ones where that is decided. In one connection the identifier must stay the first H, and all data must come
-back. Exits 1 with one line at the first failure.
+back. Starts sshd and ssh itself. Exits 0 where all passed, 1 with one line at the first failure, 2 where it is called wrongly.
 """
 import argparse
 import collections
@@ -24,18 +24,18 @@ SHOWN_EVERY = 250
 
 
 def exchange(dock, port, known, method):
-    options = "--known-hosts", known, "--methods", METHODS[method], "--host-keys", "ssh-ed25519"
+    options = "--known-hosts", known, "--methods", METHODS[method], "--host-keys", "ssh-ed25519", "--show-x"
     code, out, err = dock.run("client", "127.0.0.1", port, *options)
     need(code == 0 and err == "", f"method {method}: exit {code}: {err.strip()}")
     found = results(out)
-    need(found["method"] == f"{method} {METHODS[method]}" and found["known"] == "yes", "other results:", out)
+    need(found["method"] == f"{method} {METHODS[method]}" and found["known"] == "yes" and "X begins" in found, "other results:", out)
     return method, bytes.fromhex(found["X begins"])
 
 
 def soak(programs, dock, count, workers):
     programs.make_keys()
     port = programs.sshd(["LogLevel ERROR"])
-    known = programs.write("known_hosts", f"[127.0.0.1]:{port} {programs.public('ssh-ed25519')}\n")
+    known = programs.known(port, "ssh-ed25519")
     seen, began = collections.Counter(), time.monotonic()
 
     def line(done):
@@ -91,7 +91,7 @@ def later(programs, dock, count):
 
 
 def main():
-    options = argparse.ArgumentParser(description=__doc__.split("\n")[0])
+    options = argparse.ArgumentParser(description=__doc__, formatter_class=argparse.RawDescriptionHelpFormatter)
     options.add_argument("--dock", required=True)
     options.add_argument("--count", type=int, default=2000)
     options.add_argument("--later", type=int, default=2000, help="exchanges behind the first, in one connection")
