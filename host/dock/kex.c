@@ -68,7 +68,7 @@ static bool accepted(struct kex *k, const char *what, uint64_t number)
 static uint64_t shown(struct kex *k, const char *direction, const char *what, uint64_t length, uint64_t number, uint64_t filled)
 {
     if (number == CASTULFRISA_OK) k->filled = filled;
-    else if (number > CASTULFRISA_SHORT_OUTPUT) k->filled = 0; /* a peer's fault: the room is zeros */
+    else if (number >= CASTULFRISA_PAYLOAD_SIZE && number <= CASTULFRISA_VERDICT) k->filled = 0; /* a peer's fault: the room is zeros */
     show(k->link.show, direction, what, length == NO_MESSAGE ? -1 : (long)length, (int)number, (long)k->filled);
     return number;
 }

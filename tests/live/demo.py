@@ -155,7 +155,7 @@ def night(programs, dock, version):
 
 def refused(programs, dock, version, port):
     told = Told()
-    other = known(programs, "other", port, f"{KEY} {'A' * 43}=")
+    other = known(programs, "other", port, f"{KEY} AAAAC3NzaC1lZDI1NTE5AAAAI{'A' * 43}")
     code, out, err = dock.run("client", "127.0.0.1", port, "--known-hosts", other, "--host-keys", KEY, "--show")
     need(code == 1 and "number 18" in err, f"a wrong host key is not refused: {code} {err.strip()}")
     need(re.search(r"^   verdict .* number 18  room 0 of", out, re.M) and "keys to" not in out, "keys after a host key that is refused")
