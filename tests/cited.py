@@ -1,19 +1,23 @@
 #!/usr/bin/env python3
 """Whether what cites docs/SPECIFICATION.md cites rules that are there, and whether every rule is promised.
 
-usage: cited.py [--help]      (at the repository's top; it needs nothing built and takes a second)
+usage: cited.py
 
 - A rule has one number, and no two have the same.
 - Every rule stands in docs/PROMISES.md, but for those of section 1, which are words; and every number cited there, in docs/DECISIONS.md and behind the
   word SPECIFICATION in any other file is one of a rule or of a section.
 - Every rule that is marked (open) stands in section 16 and has its decision in docs/DECISIONS.md, and no other does.
-- No file cites a paper that is not in the repository.
-Exits 1 with a line for each fault.
+- No file cites a numbered paper that is not in the repository.
+It needs nothing built and takes a second. Exits 0, 1 with a line for each fault, 2 where it is called wrongly.
 """
 import os
 import re
 import subprocess
 import sys
+
+sys.dont_write_bytecode = True
+from command import asked, run
+from held import ROOT
 
 RULE = re.compile(r"^(?:- |\| )\*\*(\d+\.\d+(?:\.\d+)?)\*\*(.*(?:\n(?!- |\||#|\n).*)*)", re.M)
 HEADING = re.compile(r"^#{2,3} (\d+(?:\.\d+)?) ", re.M)
@@ -21,8 +25,8 @@ NUMBER = r"\d+(?:\.\d+){0,2}"
 SPAN = re.compile(rf"({NUMBER}) to ({NUMBER})")
 # numbers behind these are of sections elsewhere
 SOURCE = re.compile(r"(RFC \d+|FIPS [\d-]+|SEC 1|draft|sections?)[^|;()]*")
-# what was read before there was a specification of our own
-ELSEWHERE = re.compile(r"\b[Dd]ocuments? 0[0-9]|\b[Rr]equest #\d|\bG1\d\d[a-k]\b|\bopen-points\b")
+# papers by a number, and points of them
+ELSEWHERE = re.compile(r"\b[Dd]ocuments? \d|\b[Rr]equest #\d|\bG1\d\d[a-k]\b")
 
 
 def spread(text):
@@ -85,12 +89,8 @@ def faults():
 
 
 def main():
-    if {"-h", "--help"} & set(sys.argv[1:]):
-        print(__doc__.strip())
-        return 0
-    if sys.argv[1:] or not os.path.isfile("docs/SPECIFICATION.md"):
-        print("usage: cited.py [--help]      (at the repository's top)", file=sys.stderr)
-        return 2
+    asked(__doc__, most=0)
+    os.chdir(ROOT)
     found = list(faults())
     for fault in found:
         print(f"cited: {fault}")
@@ -100,4 +100,4 @@ def main():
 
 
 if __name__ == "__main__":
-    sys.exit(main())
+    run(main)

@@ -15,18 +15,17 @@ sys.dont_write_bytecode = True
 from command import asked, need, run
 from held import ROOT
 
-GATE = ROOT / 'tests/gate.sh'  # it takes no words, and proves everything
 HEADERS = [f'host/header_{name}' for name in ('c', 'cc', 'san', 'small')]
 STACKS = [f'host/stack_{name}' for name in ('0', '2', 'lazy', 'small_0', 'small_2', 'small_lazy')]
 RUST = [f'cargo/release/{name}' for name in ('differ', 'captures', 'script', 'timing', 'plain_bench')]
 PROGRAMS = [ROOT / 'build' / name for name in ('bench', *HEADERS, *STACKS, *RUST)]
 # calls about files and programs that are not there; '.' is an empty folder
 NOTHING = {
-    'bench_test.py': [['no/bench'], ['.']], 'expect_sha2.py': [['--from', 'no/folder'], ['--from', '.']], 'measure.py': [['no/timing', 'no/small']],
+    'bench_test.py': [['no/bench'], ['.']], 'worked_test.py': [['no/bench'], ['.']], 'expect_sha2.py': [['--from', 'no/folder'], ['--from', '.']], 'measure.py': [['no/timing', 'no/small']],
     'refused.py': [['no_crate']], 'targets.py': [['no/script', 'no/answers']], 'captures': [['no/folder']],
 }
 # and those that must have words
-WORDS = {'bench_test.py', 'expect_sha2.py', 'libcrypto.sh', 'measure.py', 'script', 'suite.sh', 'targets.py'}
+WORDS = {'bench_test.py', 'worked_test.py', 'expect_sha2.py', 'libcrypto.sh', 'measure.py', 'script', 'suite.sh', 'targets.py'}
 
 
 def said(command, folder):
@@ -58,7 +57,7 @@ def faults(path, folder):
 def main():
     asked(__doc__, most=0)
     need('make host makes them', *PROGRAMS)
-    paths = [*sorted((ROOT / 'tests').glob('*.py')), *sorted(set((ROOT / 'tests').glob('*.sh')) - {GATE}), *PROGRAMS]
+    paths = [*sorted((ROOT / 'tests').glob('*.py')), *sorted((ROOT / 'tests').glob('*.sh')), *PROGRAMS]
     with tempfile.TemporaryDirectory() as folder:
         found = [f'{path.relative_to(ROOT)}: {fault}' for path in paths for fault in faults(path, folder)]
     for fault in found:

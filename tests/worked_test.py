@@ -1,17 +1,21 @@
 #!/usr/bin/env python3
 """The whole exchanges that docs/SPECIFICATION.md works by hand (14.15), by hashlib and through the bench.
 
-usage: worked_test.py BENCH      (at the repository's top; BENCH is what `make bench` leaves in build/; takes a second)
+usage: worked_test.py BENCH
 
 Each block there has a line 'name = value' for each field. A value is text in quotes, hex, or hex*N, N bytes of it repeated, joined by spaces. What
 follows from the fields above it is computed here from the RFCs' words and by the library, in both roles, and both must be what stands there.
-Exits 1 with a line at the first difference.
+`make bench` makes BENCH, in build. It takes a second. Exits 0, 1 with a line at the first difference, 2 where it is called wrongly.
 """
 import hashlib
 import os
 import re
 import subprocess
 import sys
+
+sys.dont_write_bytecode = True
+from command import asked, need, run
+from held import ROOT
 
 DIGESTS = {32: hashlib.sha256, 48: hashlib.sha384, 64: hashlib.sha512}
 ROWS = {1: 32, 4: 32, 5: 48, 6: 64, 9: 32}  # method: its digest
@@ -98,18 +102,10 @@ def through(bench, b, found):
 
 
 def main():
-    if {"-h", "--help"} & set(sys.argv[1:]):
-        print(__doc__.strip())
-        return 0
-    if len(sys.argv) != 2:
-        print("usage: worked_test.py BENCH", file=sys.stderr)
-        return 2
-    bench = os.path.abspath(sys.argv[1])
-    if not os.access(bench, os.X_OK) or not os.path.isfile("docs/SPECIFICATION.md"):
-        print(f"worked_test: no program {sys.argv[1]} (make bench), or this is not the repository's top", file=sys.stderr)
-        return 2
-    with open("docs/SPECIFICATION.md", encoding="utf-8") as f:
-        worked = list(blocks(f.read()))
+    bench, = asked(__doc__, 1, 1)
+    need("make bench makes it", bench)
+    bench = os.path.abspath(bench)
+    worked = list(blocks((ROOT / "docs/SPECIFICATION.md").read_text(encoding="utf-8")))
     for number, b in enumerate(worked, 1):
         found = by_hand(b)
         for name, result in found.items():
@@ -129,4 +125,4 @@ def main():
 
 
 if __name__ == "__main__":
-    sys.exit(main())
+    run(main)
