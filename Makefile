@@ -30,7 +30,7 @@ test: ## the gate: every proof from nothing, every edit that must be refused, th
 	@sh tests/gate.sh
 
 # What the gate asks of what was proved. Packages behind the other machines' archives: it packs those that it finds whole.
-checks: host-test targets help-test package-test
+checks: host-test targets help-test package-test ## all that the gate does behind the proofs
 
 # What the programs read and what they must print, held to the captures, to published digests and keys, and to an account of the specification of its own;
 # the pictures, to the tables of the code; and what cites the specification, to its rules.
@@ -129,13 +129,13 @@ rust-host: lib ## the Rust wrapper, the plain implementation and what compares t
 	cd host && $(CARGO) build --release && $(CARGO) build --release --examples
 	cd host && $(WITH_SMALL) $(CARGO) build --release -p differ
 
-host: c-host rust-host
+host: c-host rust-host ## every program that the tests call
 
 # The compiled library: its header, its hosts, and every answer against the plain implementation of the specification.
 host-test: c-test rust-test bench-test differ-test live-test ## the compiled library: header, hosts, and every answer against plain Rust
 
 # The header also for 32 bits; and a result that is ignored must be refused: for that alone, and of each of the header's entries.
-c-test: c-host
+c-test: c-host ## the header, the stack and the example, in C and C++, also under the sanitizers
 	build/host/header_c && build/host/header_cc && build/host/header_san && build/host/header_small
 	gcc -std=c11 $(WARN) -m32 -ffreestanding -fsyntax-only tests/header_32.c
 	gcc -std=c11 $(WARN) -Wno-unused-result -c tests/ignored.c -o build/host/ignored.o
@@ -146,7 +146,7 @@ c-test: c-host
 	build/host/stack_small_0 && build/host/stack_small_2 && build/host/stack_small_lazy
 	build/host/example && build/host/example_san && build/host/example_small
 
-rust-test: rust-host
+rust-test: rust-host ## the Rust wrapper, plain Rust's own tests, every captured exchange
 	cd host && $(CARGO) test && $(CARGO) test --release -p castulfrisa --tests
 	$(RUST)/examples/exchange
 	$(RUST)/captures tests/captures
@@ -158,7 +158,7 @@ script: rust-host
 	$(RUST)/script $(SEED) 3000 2000 2000 > build/host/script
 	$(RUST)/plain_bench < build/host/script > build/host/answers
 
-bench-test: c-host script
+bench-test: c-host script ## worked examples, published keys, captures and 59,000 random calls through the bench
 	python3 tests/bench_test.py build/bench
 	python3 tests/bench_test.py build/host/bench_small
 	python3 tests/worked_test.py build/bench
@@ -168,7 +168,7 @@ bench-test: c-host script
 	@echo "bench: $$(wc -l < build/host/answers) answers as the plain implementation gives them, for speed and for size, also under the sanitizers"
 
 # Every test says how it is called.
-help-test: host
+help-test: host ## whether every test says how it is called
 	python3 tests/help_test.py
 
 differ-test: rust-host ## the library against plain Rust, by random calls

@@ -467,7 +467,7 @@ def room(t):
         ('method', {method.number: method.number for method in t.methods}),
         ('C', {number: sizes['c'] for number, sizes in t.most.items()}),
         ('S', {number: sizes['s'] for number, sizes in t.most.items()}),
-        ('K at most', {number: sizes['k'] for number, sizes in t.most.items()}),
+        ("K's body at most", {number: sizes['k'] for number, sizes in t.most.items()}),
         ('hash input at most', t.inputs),
     ]:
         y += 19

@@ -5,6 +5,7 @@
 # usage: clang.sh CLANG TARGET VARIANT WORDS...   or: clang.sh targets
 set -eu
 if [ "$*" = targets ]; then echo x86-64 aarch64 riscv64 armv7 cortex-m3; exit; fi
+if [ $# -lt 3 ]; then sed -n '/^# usage: /s/^# //p' "$0" >&2; exit 2; fi
 clang=$1 target=$2 variant=$3
 shift 3
 

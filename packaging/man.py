@@ -1,6 +1,6 @@
 #!/usr/bin/env python3
-"""castulfrisa(3), made from the header: what the page says of the library is what the header says, in its order and its words. Where an entry has no
-comment, or the header has a shape that is not understood here, there is no page.
+"""castulfrisa(3), made from the header: what the page says of the library is what the header says, in its order and its words, but for a few lines of
+notation. Where an entry has no comment, or the header has a shape that is not understood here, there is no page.
 
 usage: man.py HEADER VERSION DATE EXAMPLE...      (a DATE of '' is none; the page goes to standard output)
 """
@@ -70,7 +70,7 @@ class Header:
             raise Unclear(piece)
         doc = self.taken()
         if size is None:
-            return
+            sys.exit(0)
         lines = doc if size[3] is None else comment_lines(size[3])
         if lines is None:
             raise Unclear(f'{size[1]} has no comment')
@@ -106,7 +106,7 @@ def pieces(text):
         ahead = re.compile(r'\s*').match(text, at)
         at = ahead.end()
         if at == len(text):
-            return
+            sys.exit(0)
         if text.startswith('/*', at):
             kind, end = 'comment', text.find('*/', at) + 2
         elif text[at] == '#':
@@ -391,6 +391,9 @@ def link():
 
 if __name__ == '__main__':
     if len(sys.argv) < 4:
+        if {'-h', '--help'} & set(sys.argv[1:]):
+            print(__doc__.strip())
+            sys.exit(0)
         sys.exit(__doc__)
     try:
         sys.stdout.write(page(pathlib.Path(sys.argv[1]).read_text(), sys.argv[2], sys.argv[3], [pathlib.Path(path) for path in sys.argv[4:]]))

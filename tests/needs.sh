@@ -73,13 +73,19 @@ makes() { # COMPILER HEADER WORDS...
     command -v "$compiler" >/dev/null || return
     printf '#include <%s>\nint main(void) { return 0; }\n' "$header" | "$compiler" -x c - "$@" -o "$scratch" 2>/dev/null
 }
+rust_is_new() {
+    asked=$(sed -n 's/^rust-version = "1\.\([0-9]*\)"$/\1/p' host/castulfrisa/Cargo.toml)
+    here=$(rustc --version 2>/dev/null | sed -n 's/^rustc 1\.\([0-9]*\)\..*/\1/p')
+    [ "${here:-0}" -ge "$asked" ]
+}
 has() { # THING
     case $1 in
     gcc) makes gcc stdio.h ;;
     libcrypto) makes gcc openssl/evp.h -lcrypto ;;
     *-gcc) makes "$1" stdio.h -static ;;
     sshd) command -v sshd >/dev/null || [ -x /usr/sbin/sshd ] ;;
-    cargo) cargo --offline metadata --format-version 1 --manifest-path host/Cargo.toml >/dev/null 2>&1 ;;
+    # a cargo that reads the workspace, and a compiler that is not older than the crate asks for
+    cargo) cargo --offline metadata --format-version 1 --manifest-path host/Cargo.toml >/dev/null 2>&1 && rust_is_new ;;
     *) command -v "$1" >/dev/null ;;
     esac
 }

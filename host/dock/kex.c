@@ -56,11 +56,19 @@ static struct seal *seal_towards(struct kex *k, enum direction way)
 /* ---- the core's numbers */
 
 /* 0 goes on; 1 to 5 and 23 are our own limits; all others are the peer's fault. */
+static bool own_fault(struct kex *k)
+{
+    link_disconnect(&k->link, REASON_BY_APPLICATION, "no key exchange is possible");
+    return false;
+}
+
 static bool accepted(struct kex *k, const char *what, uint64_t number)
 {
     if (number == CASTULFRISA_OK) return true;
-    if (number <= CASTULFRISA_SHORT_OUTPUT || number == CASTULFRISA_COUNT_FULL)
-        return trouble("%s not possible (number %u: %s)", what, (unsigned)number, castulfrisa_text(number));
+    if (number <= CASTULFRISA_SHORT_OUTPUT || number == CASTULFRISA_COUNT_FULL) {
+        trouble("%s not possible (number %u: %s)", what, (unsigned)number, castulfrisa_text(number));
+        return own_fault(k);
+    }
     return peer_fault(&k->link, "%s refused (number %u: %s)", what, (unsigned)number, castulfrisa_text(number));
 }
 
@@ -170,7 +178,7 @@ static bool choose_seals(struct kex *k)
             || !common_name(k, "compression", lists[way][2], &compression)) return false;
         s->next.cipher = cipher_named(cipher);
         s->next.mac = mac_named(mac);
-        if (s->next.cipher == NULL || s->next.mac == NULL || !span_is(compression, "none")) return trouble("the choice is none of our names");
+        if (s->next.cipher == NULL || s->next.mac == NULL || !span_is(compression, "none")) return trouble("the choice is none of our names"), own_fault(k);
     }
     return true;
 }
@@ -204,7 +212,7 @@ static bool negotiate(struct kex *k, span peer)
     k->method = choice.method;
     k->scheme = scheme_named(k->ic.at + choice.host_key.start, (size_t)choice.host_key.len);
     k->drop = (client ? choice.ignore_server : choice.ignore_client) == 1;
-    if (!makes_method(k->method) || k->scheme == NULL) return trouble("the choice is none of our names");
+    if (!makes_method(k->method) || k->scheme == NULL) return trouble("the choice is none of our names"), own_fault(k);
     if (!choose_seals(k) || !choose_strict(k)) return false;
     if (!accepted(k, "sizes", castulfrisa_method_sizes(k->method, &k->sizes))) return false;
 

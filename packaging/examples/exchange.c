@@ -12,6 +12,7 @@
 #define METHOD "curve25519-sha256"
 #define V_C "SSH-2.0-client"
 #define V_S "SSH-2.0-server"
+#define VERSIONS (4 + sizeof V_C - 1 + 4 + sizeof V_S - 1)
 
 struct side {
     uint8_t exchange[CASTULFRISA_EXCHANGE], room[CASTULFRISA_ROOM];
@@ -119,8 +120,11 @@ static void complete(uint64_t method)
         wipe();
         exit(1);
     }
+    /* K, also in the rooms; the V's at their beginnings stay */
     castulfrisa_wipe(client.k, sizeof client.k);
     castulfrisa_wipe(server.k, sizeof server.k);
+    castulfrisa_wipe(client.room + VERSIONS, sizeof client.room - VERSIONS);
+    castulfrisa_wipe(server.room + VERSIONS, sizeof server.room - VERSIONS);
     castulfrisa_wipe_stack();
 }
 

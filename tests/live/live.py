@@ -1,11 +1,11 @@
 #!/usr/bin/env python3
 """dock against OpenSSH and against hostile peers, over the loopback.
 
-usage: live.py --dock PROGRAM [--dock-asan PROGRAM] [--dock-wrong PROGRAM] [--seed TEXT]
+usage: live.py --dock PROGRAM [--dock-asan PROGRAM] [--dock-wrong PROGRAM] [--part TEXT] [--seed TEXT]
 
 Starts sshd and ssh itself, with keys and files in a temporary folder, all on the loopback, and needs both. Prints a line for each part, and takes a minute
 on two cores. --dock-asan: a build with sanitizers, which then meets the hostile peers. --dock-wrong: a build with wrong_keys.c, whose keys must fail; without
-it those parts are left out. Exits 0 where all passed, 1 with one line at the first failure, 2 where it is called wrongly.
+it those parts are left out. --part: only the parts whose line has TEXT in it, 'known hosts' say. Exits 0 where all passed, 1 with one line at the first failure, 2 where it is called wrongly.
 """
 import argparse
 import concurrent.futures
@@ -361,6 +361,9 @@ def wrong_keys(programs, dock, port):
 
 # ---- all
 
+DRAWN = "X that begins 0080, 007f, 80, 7f"
+
+
 def part(name, work, *arguments, of="live"):
     began = time.monotonic()
     try:
@@ -375,8 +378,16 @@ def main():
     options.add_argument("--dock", required=True)
     options.add_argument("--dock-asan")
     options.add_argument("--dock-wrong")
+    options.add_argument("--part", default="", help="only those with this in their line")
     options.add_argument("--seed", default="live", help="of the hostile peers")
     options = options.parse_args()
+    ran = []
+
+    def run(name, work, *arguments):
+        if options.part in name:
+            ran.append(name)
+            part(name, work, *arguments)
+
     began = time.monotonic()
     end_on_signals()
 
@@ -388,34 +399,37 @@ def main():
             sshd = programs.sshd()
             # Two bytes of X take some 65,536 draws: they are drawn while the other parts run.
             with concurrent.futures.ThreadPoolExecutor(2) as drawing:
-                draws = [drawing.submit(x_begins, programs, dock, *case) for case in BEGINNINGS]
+                draws = [drawing.submit(x_begins, programs, dock, *case) for case in BEGINNINGS if options.part in DRAWN]
                 try:
-                    part("command line", command_line, programs, dock)
-                    part("1, client against sshd", as_client, programs, dock, sshd)
-                    part("2, server for ssh", as_server, programs, dock)
-                    part("5, guessed packets", guesses, programs, dock)
-                    part("12, where a server listens", known.listening, programs, dock)
-                    part("12, first contact", known.first_contact, programs, dock, sshd)
-                    part("12, preferred host keys", known.preferred, programs, dock, sshd)
-                    part("6, sealed packets", sealed_packets, programs, dock, sshd)
-                    part("8, later exchanges with OpenSSH", rekey.with_openssh, programs, dock)
+                    run("command line", command_line, programs, dock)
+                    run("client against sshd", as_client, programs, dock, sshd)
+                    run("server for ssh", as_server, programs, dock)
+                    run("guessed packets", guesses, programs, dock)
+                    run("where a server listens", known.listening, programs, dock)
+                    run("first contact", known.first_contact, programs, dock, sshd)
+                    run("preferred host keys", known.preferred, programs, dock, sshd)
+                    run("sealed packets", sealed_packets, programs, dock, sshd)
+                    run("later exchanges with OpenSSH", rekey.with_openssh, programs, dock)
                     if options.dock_wrong:
                         wrong = Dock(programs, options.dock_wrong)
-                        part("7, wrong keys", wrong_keys, programs, wrong, sshd)
-                        part("9, keys of another identifier", rekey.wrong_identifiers, programs, wrong)
+                        run("wrong keys", wrong_keys, programs, wrong, sshd)
+                        run("keys of another identifier", rekey.wrong_identifiers, programs, wrong)
                     checked, how = (Dock(programs, options.dock_asan), ", under the sanitizers") if options.dock_asan else (dock, "")
-                    part(f"12, known hosts{how}", known.known_lines, programs, dock, checked, sshd)
-                    part("12, known hosts at port 22", known.default_port, programs, dock)
-                    part(f"13, words at any time{how}", asides.in_both_roles, programs, checked)
-                    part(f"10, exact peers in later exchanges{how}", rekey.exact_peers, programs, checked)
-                    part(f"11, hostile peers in later exchanges{how}", rekey.hostile_peers, programs, checked, options.seed)
-                    part(f"4, hostile peers{how}", hostile_peers, programs, checked, options.seed, sshd)
+                    run(f"known hosts{how}", known.known_lines, programs, dock, checked, sshd)
+                    run("known hosts at port 22", known.default_port, programs, dock)
+                    run(f"words at any time{how}", asides.in_both_roles, programs, checked)
+                    run(f"exact peers in later exchanges{how}", rekey.exact_peers, programs, checked)
+                    run(f"hostile peers in later exchanges{how}", rekey.hostile_peers, programs, checked, options.seed)
+                    run(f"hostile peers{how}", hostile_peers, programs, checked, options.seed, sshd)
                     for (method, begins), draw in zip(BEGINNINGS, draws):
                         try:
                             draw.result()
                         except (Failure, OSError, subprocess.SubprocessError) as e:
-                            raise Failure(f"3, X begins {begins}, method {method}: {e}") from None
-                    print(f"live: 3, X that begins 0080, 007f, 80, 7f: {len(draws)} exchanges with ssh ({time.monotonic() - began:.1f} s)")
+                            raise Failure(f"X begins {begins}, method {method}: {e}") from None
+                    if draws:
+                        ran.append(DRAWN)
+                        print(f"live: {DRAWN}: {len(draws)} exchanges with ssh ({time.monotonic() - began:.1f} s)")
+                    need(ran, f"no part has '{options.part}' in its line")
                 except BaseException:
                     for draw in draws:
                         draw.cancel()
@@ -426,7 +440,7 @@ def main():
             return 1
         finally:
             programs.stop_all()
-    print(f"live: all passed in {time.monotonic() - began:.1f} s")
+    print(f"live: {f'{len(ran)} of the parts' if options.part else 'all'} passed in {time.monotonic() - began:.1f} s")
     return 0
 
 
