@@ -70,7 +70,7 @@ class Header:
             raise Unclear(piece)
         doc = self.taken()
         if size is None:
-            sys.exit(0)
+            return
         lines = doc if size[3] is None else comment_lines(size[3])
         if lines is None:
             raise Unclear(f'{size[1]} has no comment')
@@ -106,7 +106,7 @@ def pieces(text):
         ahead = re.compile(r'\s*').match(text, at)
         at = ahead.end()
         if at == len(text):
-            sys.exit(0)
+            return
         if text.startswith('/*', at):
             kind, end = 'comment', text.find('*/', at) + 2
         elif text[at] == '#':
