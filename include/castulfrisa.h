@@ -21,7 +21,8 @@
 
    ANSWERS
    - A call returns its number: 0, or the first cause against it (enum castulfrisa_number; castulfrisa_text has a sentence for each).
-     There is no other error channel. Only castulfrisa_method_number, castulfrisa_version and castulfrisa_join return something else.
+     There is no other error channel. Only castulfrisa_method_number, castulfrisa_version, castulfrisa_join and castulfrisa_text return
+     something else.
    - On any number but 0 all that is told through lent numbers is 0, but a bad list's number and a cursor (castulfrisa_next_name's stays, a
      refused castulfrisa_open_list's yields only the end), and all outputs but H, a digest and the session identifier are as they were.
    - A part is a place in the payload that was handed in: bytes payload[start] to payload[start + len - 1].
