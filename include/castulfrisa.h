@@ -21,10 +21,14 @@
 
    ANSWERS
    - A call returns its number: 0, or the first cause against it (enum castulfrisa_number; castulfrisa_text has a sentence for each).
-     There is no other error channel. Only castulfrisa_method_number, castulfrisa_version, castulfrisa_join and castulfrisa_text return
-     something else.
-   - On any number but 0 all that is told through lent numbers is 0, but a bad list's number and a cursor (castulfrisa_next_name's stays, a
-     refused castulfrisa_open_list's yields only the end), and all outputs but H, a digest and the session identifier are as they were.
+     There is no other error channel. Only castulfrisa_method_number, castulfrisa_version, castulfrisa_join, castulfrisa_text and
+     castulfrisa_field return something else.
+   - On any number but 0 all that is told through lent numbers is 0, but a bad list's number, a cursor (castulfrisa_next_name's stays, a
+     refused castulfrisa_open_list's yields only the end) and a position; and all outputs but H, a digest and the session identifier are
+     as they were.
+   - A position is where a payload breaks, counted from 0 at its first byte. castulfrisa_open_list, castulfrisa_read_init and
+     castulfrisa_read_reply tell it: with 12 where the field that passes the end begins, a string at its four length bytes; with 13 the
+     first byte left over; with every other number 0. castulfrisa_field has a name for it.
    - A part is a place in the payload that was handed in: bytes payload[start] to payload[start + len - 1].
    - Numbers are judged as they come, all 64 bits: 257 is no method. A yes is 1; every other number, 2 too, is a no. A yes/no that is
      told is 1 or 0.
@@ -62,7 +66,7 @@ extern "C" {
 
 /* The number of this header. castulfrisa_version() tells the archive's: where the two differ, they are of different days. It goes up
    by one where an entry or a size changes. */
-#define CASTULFRISA_VERSION 5
+#define CASTULFRISA_VERSION 6
 
 #if defined(__GNUC__)
 #define CASTULFRISA_MUST_USE __attribute__((warn_unused_result))
@@ -211,6 +215,7 @@ typedef struct {
     uint64_t follows;          /* first_kex_packet_follows */
     uint64_t reserved;         /* as found */
     castulfrisa_cursor cursor; /* at the list's beginning */
+    uint64_t position;         /* with 12 and 13: where the payload breaks */
 } castulfrisa_opened;
 
 typedef struct {
@@ -224,7 +229,15 @@ typedef struct {
     uint64_t ignore_client, ignore_server; /* whether that side's next packet is a wrong guess, to be ignored */
 } castulfrisa_choice;
 
-typedef struct { castulfrisa_part host_key, s, signature; } castulfrisa_reply;
+typedef struct {
+    castulfrisa_part c;
+    uint64_t position; /* with 12 and 13: where the payload breaks */
+} castulfrisa_init;
+
+typedef struct {
+    castulfrisa_part host_key, s, signature;
+    uint64_t position; /* with 12 and 13: where the payload breaks */
+} castulfrisa_reply;
 
 typedef struct {
     uint64_t reply; /* REPLY's bytes */
@@ -289,7 +302,7 @@ CASTULFRISA_MUST_USE uint64_t castulfrisa_write_kexinit(
 
 /* Opens a payload for one of its lists (enum castulfrisa_list): cookie, boolean, reserved number, and a cursor for
    castulfrisa_next_name. Names are judged only as they are yielded. A refusal's cursor yields only the end.
-   4: list number; 10 to 13: the payload. */
+   4: list number; 10 to 13: the payload, with 12 and 13 the position. */
 CASTULFRISA_MUST_USE uint64_t castulfrisa_open_list(
     const uint8_t *payload, uint64_t payload_len, uint64_t list, castulfrisa_opened *opened);
 
@@ -330,13 +343,14 @@ CASTULFRISA_MUST_USE uint64_t castulfrisa_own_c(
     uint8_t *exchange, uint64_t exchange_len, uint8_t *room, uint64_t room_len,
     const uint8_t *c, uint64_t c_len, uint8_t *out, uint64_t out_len, uint64_t *count);
 
-/* Server: reads INIT. C goes into the room; its place in the payload is told. 1; 3; 10 to 15: the peer's fault. */
+/* Server: reads INIT. C goes into the room; its place in the payload is told. 1; 3; 10 to 15: the peer's fault, with 12 and 13 the
+   position. */
 CASTULFRISA_MUST_USE uint64_t castulfrisa_read_init(
     uint8_t *exchange, uint64_t exchange_len, uint8_t *room, uint64_t room_len,
-    const uint8_t *payload, uint64_t payload_len, castulfrisa_part *c);
+    const uint8_t *payload, uint64_t payload_len, castulfrisa_init *told);
 
 /* Client: reads REPLY. K_S goes into the room ahead of C, S behind it; their places and the signature's are told.
-   1; 3; 10 to 15: the peer's fault. */
+   1; 3; 10 to 15: the peer's fault, with 12 and 13 the position. */
 CASTULFRISA_MUST_USE uint64_t castulfrisa_read_reply(
     uint8_t *exchange, uint64_t exchange_len, uint8_t *room, uint64_t room_len,
     const uint8_t *payload, uint64_t payload_len, castulfrisa_reply *parts);
@@ -503,6 +517,53 @@ CASTULFRISA_MUST_USE static inline const char *castulfrisa_text(uint64_t number)
     case CASTULFRISA_COUNT_FULL: return "4,294,967,295 exchanges are complete: this session can begin no other";
     default: return "no number of this library";
     }
+}
+
+/* The field of an INIT, REPLY or KEXINIT that a position tells: its name in the RFCs, or "bytes left over" where every field is ahead of
+   it. "no field" for another payload, and for a position where none of its fields begins: 0 is one. */
+CASTULFRISA_MUST_USE static inline const char *castulfrisa_field(const uint8_t *payload, uint64_t payload_len, uint64_t position)
+{
+    static const char *const init[] = {"C"};
+    static const char *const reply[] = {"K_S", "S", "signature"};
+    static const char *const lists[CASTULFRISA_LISTS] = {
+        "kex_algorithms", "server_host_key_algorithms",
+        "encryption_algorithms_client_to_server", "encryption_algorithms_server_to_client",
+        "mac_algorithms_client_to_server", "mac_algorithms_server_to_client",
+        "compression_algorithms_client_to_server", "compression_algorithms_server_to_client",
+        "languages_client_to_server", "languages_server_to_client"};
+    const char *const *names = init;
+    uint64_t at = 1, n;
+    uint32_t i, count = 1;
+    uint8_t message;
+    if (payload_len == 0 || position > payload_len) return "no field";
+    message = payload[0];
+    switch (message) {
+    case 20:
+        if (position == at) return "cookie";
+        at += CASTULFRISA_COOKIE;
+        names = lists;
+        count = CASTULFRISA_LISTS;
+        break;
+    case 30: break;
+    case 31:
+        names = reply;
+        count = 3;
+        break;
+    default: return "no field";
+    }
+    for (i = 0; i < count; i++) {
+        if (position == at) return names[i];
+        if (at > payload_len || payload_len - at < 4) return "no field";
+        n = (uint64_t)payload[at] << 24 | (uint64_t)payload[at + 1] << 16 | (uint64_t)payload[at + 2] << 8 | payload[at + 3];
+        if (payload_len - at - 4 < n) return "no field";
+        at += 4 + n;
+    }
+    if (message == 20) {
+        if (position == at) return "first_kex_packet_follows";
+        if (position == at + 1) return "reserved";
+        at += 5;
+    }
+    return position == at ? "bytes left over" : "no field";
 }
 
 #ifdef __cplusplus

@@ -37,8 +37,8 @@ def checksum(data):
     return h
 
 
-def call(name, number, count=0):
-    lines.append(f"{name} {number} {count} {checksum(room)}\n")
+def call(name, number, count=0, position=0):
+    lines.append(f"{name} {number} {count} {position} {checksum(room)}\n")
 
 
 def secret(number, count=0, h=b""):
@@ -71,9 +71,16 @@ def fault():
     secret(1)
 
 
+def cut():
+    """An INIT of which only the first 40 bytes are there: its string, C, begins behind the message number."""
+    room[:] = bytes(len(room))
+    call("INIT", 12, position=1)
+    secret(1)
+
+
 def files():
     f.update(capture("client-9-openssh-10.0"))
-    for play in (client, server, fault):
+    for play in (client, server, fault, cut):
         play()
     folder = ROOT / "crates/in_place_run"
     return {

@@ -74,7 +74,7 @@ kem-four role m n cl x kPq ks s h = unless-fails _ 4 _ (second (xOk (rowOf m) cl
 -- ---- a role or a method that is no byte is refused as the byte 0 is
 
 abbrev refusal : Step
-refusal = record { number = 2; count = 0; second = 0; exchange = ended 2 0 0 noSession }
+refusal = record { number = 2; count = 0; second = 0; exchange = ended 2 0 0 noSession; position = 0 }
 
 module _ (vc vs ic is : List ℕ) where
   strange : (role m : ℕ) (room : ℕ) → methodOk m && roleOk role ≡ false → started role m vc vs ic is room ≡ refusal

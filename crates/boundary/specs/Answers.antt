@@ -15,9 +15,9 @@ cursorNumbers c = c .at ∷ c .end ∷ []
 abbrev pub cursorOf : List ℕ → Cursor
 cursorOf n = record { at = getD n 0 0; end = getD n 1 0 }
 
--- an opened KEXINIT: the cookie's place, the boolean, the reserved number, the cursor
+-- an opened KEXINIT: the cookie's place, the boolean, the reserved number, the cursor, the position
 abbrev pub openedNumbers : Opened → List ℕ
-openedNumbers r = placeOf (r .head .cookie) ++ cond (r .head .follows) 1 0 ∷ r .head .reserved ∷ cursorNumbers (r .cursor)
+openedNumbers r = placeOf (r .head .cookie) ++ cond (r .head .follows) 1 0 ∷ r .head .reserved ∷ cursorNumbers (r .cursor) ++ r .head .position ∷ []
 
 -- a choice: the method, the host key name's place, whether the client's and whether the server's next packet is ignored
 abbrev pub choiceNumbers : Choice → List ℕ

@@ -16,6 +16,8 @@ ghost use Rattle.lookups.specs.Lookups.{methodCause, sizesOf, nameCause};
 ghost use Rattle.names.specs.Cursor.{nextName};
 ghost use Rattle.proposal.specs.Proposal.{kexinit};
 ghost use Rattle.lists.specs.Lists.{firstBad, proposed, tableCause};
+ghost use Rattle.messages.specs.Position.{position};
+ghost use Rattle.messages.specs.Messages.{initLayout, replyLayout};
 ghost use Rattle.kexinit.specs.Reader.{openList};
 ghost use Rattle.common.specs.Common.{any};
 ghost use Rattle.choice.specs.Choice.{chosen};
@@ -23,7 +25,7 @@ ghost use Rattle.exchange.specs.Steps.{ownC, init, reply, secret as secretStep,
 ghost use Rattle.arguments.specs.Arguments.{isYes, classicalOf, kemOf};
 ghost use Rattle.stored.specs.Stored.{stageNumber, failNumber, decoded, byFit};
 ghost use Rattle.keys.specs.Derived.{deriveCause, keyIn};
-ghost use Rattle.lent.specs.Lent.{placeOf, left, lentStart, lentCall, sessionKnown, lentAgain};
+ghost use Rattle.lent.specs.Lent.{placeOf, left, lentStart, lentCall, positioned, sessionKnown, lentAgain};
 ghost use Rattle.lent_hash.specs.LentHash.{hashLeft, hashStartLeft, hashFeedLeft, hashFinishLeft};
 ghost use Rattle.boundary.specs.Answers.{cursorOf, cursorNumbers, openedNumbers, choiceNumbers};
 
@@ -121,9 +123,9 @@ pub extern "C" fn castulfrisa_method_sizes(method: u64, sizes: &mut [u64; 8]) ->
 
 // ---- KEXINIT
 
-// Opens a payload for one of its ten lists. Told: the cookie's place, the boolean, the reserved number, and a cursor.
+// Opens a payload for one of its ten lists. Told: the cookie's place, the boolean, the reserved number, a cursor, and with 12 and 13 the position.
 #[no_mangle]
-pub extern "C" fn castulfrisa_open_list(payload: &[u8], list: u64, opened: &mut [u64; 6]) -> u64
+pub extern "C" fn castulfrisa_open_list(payload: &[u8], list: u64, opened: &mut [u64; 7]) -> u64
     ensures { λ n.
         let r = openList (now (payload .entry)) list in
         ⌜ (n ≡ r .head .number) × (now (opened .exit) ≡ openedNumbers r) ⌝ }
@@ -138,6 +140,7 @@ pub extern "C" fn castulfrisa_open_list(payload: &[u8], list: u64, opened: &mut 
         h.reserved as u64,
         c.at as u64,
         c.end as u64,
+        h.position as u64,
     ];
     h.number as u64
 }
@@ -254,30 +257,30 @@ pub extern "C" fn castulfrisa_own_c(
     lent_client::own_c(ex, room, c, out, count) as u64
 }
 
-// Server, INIT read. Told: C's place.
+// Server, INIT read. Told: C's place, and with 12 and 13 the position.
 #[no_mangle]
 pub extern "C" fn castulfrisa_read_init(
     ex: &mut [u8],
     room: &mut [u8],
     payload: &[u8],
-    place: &mut [u64; 2],
+    told: &mut [u64; 3],
 ) -> u64
-    ensures { λ n. ⌜ left n (now (place .exit)) (now (ex .exit)) (now (room .exit)) [] ≡ lentCall (now (ex .entry)) (now (room .entry)) (init (now (payload .entry))) [] ⌝ }
+    ensures { λ n. ⌜ left n (now (told .exit)) (now (ex .exit)) (now (room .exit)) [] ≡ positioned (position n initLayout (now (payload .entry))) (lentCall (now (ex .entry)) (now (room .entry)) (init (now (payload .entry))) []) ⌝ }
 {
-    lent_server::read_init(ex, room, payload, place) as u64
+    lent_server::read_init(ex, room, payload, told) as u64
 }
 
-// Client, REPLY read. Told: the places of K_S, S and the signature.
+// Client, REPLY read. Told: the places of K_S, S and the signature, and with 12 and 13 the position.
 #[no_mangle]
 pub extern "C" fn castulfrisa_read_reply(
     ex: &mut [u8],
     room: &mut [u8],
     payload: &[u8],
-    places: &mut [u64; 6],
+    told: &mut [u64; 7],
 ) -> u64
-    ensures { λ n. ⌜ left n (now (places .exit)) (now (ex .exit)) (now (room .exit)) [] ≡ lentCall (now (ex .entry)) (now (room .entry)) (reply (now (payload .entry))) [] ⌝ }
+    ensures { λ n. ⌜ left n (now (told .exit)) (now (ex .exit)) (now (room .exit)) [] ≡ positioned (position n replyLayout (now (payload .entry))) (lentCall (now (ex .entry)) (now (room .entry)) (reply (now (payload .entry))) []) ⌝ }
 {
-    lent_client::read_reply(ex, room, payload, places) as u64
+    lent_client::read_reply(ex, room, payload, told) as u64
 }
 
 // Both roles, the secret. Told: the hash input's count, and H as 64 bytes; zeros on a refusal.

@@ -1,10 +1,11 @@
 -- What a step by value answers, from the step on bytes. Assumes nothing.
 use Prim.Native.Nat.{ℕ, _<_}
 use mathlib.Core.Path.{_≡_, refl, sym, ap, _∙_}
-use mathlib.Core.List.{List, []}
+use mathlib.Core.List.{List, [], _∷_, _++_}
 use mathlib.Core.Bool.{Bool, true, false, not, cond, _&&_, false≢true}
 use native.Mathlib.Omega.{arith}
-use lib.ListN.{length}
+use lib.ListN.{length, getD}
+use lib.Seq.{getD-at}
 use lib.Dec.{leb, eqb}
 use borrow.Author.Tests.{leb-true, le-leb}
 use Rattle.limits.specs.Limits.{lengthMost, kSize, hSize, countMost, exchangeSize}
@@ -14,19 +15,19 @@ use Rattle.wire.proofs.CauseLaws.{unless-fails}
 use Rattle.exchange.specs.Causes.{startCause}
 use Rattle.exchange.specs.Record.{due}
 use Rattle.exchange.specs.Numbers.{Kind, accepted, refused, fault, kind, byKind}
-use Rattle.exchange.specs.Steps.{Call, number, stepNumber, secondOf, countOf, exchangeAfter, roomAfter, answered, started, startedRoom, refusedStep}
+use Rattle.exchange.specs.Steps.{Call, init, reply, number, stepNumber, secondOf, countOf, exchangeAfter, roomAfter, positionOf, answered, started, startedRoom, refusedStep}
 use Rattle.exchange.specs.declared.Lengths.{Lengths}
 use Rattle.exchange.specs.declared.Exchange.{Exchange}
 use Rattle.exchange.specs.declared.Step.{Step}
 use Rattle.exchange.specs.Again.{againAfter, againRoom, againAnswered}
-use Rattle.exchange.proofs.StepLaws.{step-refused}
+use Rattle.exchange.proofs.StepLaws.{position-other, step-refused}
 use Rattle.exchange.proofs.SessionLaws.{again-refused-keeps}
 use Rattle.stored.specs.Stored.{encoded, decoded, blank, byFit, bySize}
 use Rattle.stored.proofs.StoredLaws.{size-taken, fits-known}
 use Rattle.stored.proofs.RoundTrip.{Short, decoded-encoded, encoded-fits}
-use Rattle.lent.specs.Lent.{Left, left, tells, writes, outputsAfter, untouched, lentCall, startLeft, lentStart, lentAgain}
+use Rattle.lent.specs.Lent.{Left, left, tells, writes, outputsAfter, untouched, lentCall, positioned, startLeft, lentStart, lentAgain}
 use Rattle.lent.proofs.Kept.{Storable, Within, step-storable, start-storable, again-storable, lent-is-step, long-not-due, long-refused, long-not-again}
-use Rattle.lent.proofs.AsStep.{AsStep, as-step, byAgain, as-again}
+use Rattle.lent.proofs.AsStep.{AsStep, as-step, position-aside, byAgain, as-again}
 use Rattle.by_value.specs.ByValue.{fitsTwo, fitsBytes, withExchange, back}
 
 -- ---- lengths that two bytes hold
@@ -107,24 +108,24 @@ module _ (n : ℕ) (e : Exchange) (room fed : ℕ) (t : Bool) (b : List ℕ) (l 
 
 module _ (e : Exchange) (room : List ℕ) (q : Call) (t : Bool) (b : List ℕ) (l : Laid e t b) where
   -- one that the bytes cannot hold
-  pub value-long : not t ≡ true → (refusedStep 1 e ≡ answered e room q) × (room ≡ roomAfter e room q) × (¬ (number e room q ≡ 0))
+  pub value-long : not t ≡ true → (refusedStep 1 0 e ≡ answered e room q) × (room ≡ roomAfter e room q) × (¬ (number e room q ≡ 0))
   unfolding kind
   value-long h =
       let n = long-refused e room q (laid-long e t b l h) in
       let s = step-refused e room q 1 (sym n) (λ z. let w : ⊥ = omega arith in w) in
-      (s .0, s .1, (λ z. let w : ⊥ = omega (arith, n, z) in w))
+      (ap (λ (at : ℕ). refusedStep 1 at e) (position-other 1 q refl) ∙ s .0, s .1, (λ z. let w : ⊥ = omega (arith, n, z) in w))
 
   module _ (h : not t ≡ false) (k : Sized e) (outs : List (List ℕ)) (n : ℕ) (told ex room′ : List ℕ) (outs′ : List (List ℕ)) (c : left n told ex room′ outs′ ≡ lentCall b room q outs) where
     -- others: what was told, by the step's counts
-    pub value-step : (count second : ℕ) → (AsStep e room q outs n told ex room′ outs′ → (count ≡ answered e room q .count) × (second ≡ answered e room q .second))
-        → (back n count second ex ≡ answered e room q) × (room′ ≡ roomAfter e room q) × (outs′ ≡ outputsAfter (number e room q) outs (writes e room q))
+    pub value-step : (count second at : ℕ) → (AsStep e room q outs n told ex room′ outs′ → (count ≡ answered e room q .count) × (second ≡ answered e room q .second)) → at ≡ positionOf n q
+        → (back n count second at ex ≡ answered e room q) × (room′ ≡ roomAfter e room q) × (outs′ ≡ outputsAfter (number e room q) outs (writes e room q))
     unfolding back answered
-    value-step count second f =
+    value-step count second at f g =
         let s = laid-short e t b l h k in
         let a = as-step b e room q outs n told ex room′ outs′ (s .1) (s .0) c in
         let d = f a in
         let x = exchange-back (exchangeAfter e room q) ex (step-storable e room q (s .0)) (a .exchange-is) in
-        ((λ i. record { number = a .number-is i; count = d .0 i; second = d .1 i; exchange = x i }), a .room-is, a .outputs-are)
+        ((λ i. record { number = a .number-is i; count = d .0 i; second = d .1 i; exchange = x i; position = (g ∙ ap (λ (m : ℕ). positionOf m q) (a .number-is)) i }), a .room-is, a .outputs-are)
 
     -- and all that was told
     pub value-told : told ≡ tells e room q
@@ -151,19 +152,45 @@ second-none e room q h = by-kind (kind (number e room q))
     by-kind refused = refl
     by-kind fault = refl
 
+-- ---- a reader
+
+-- what it tells ahead of the position: a part, or three
+pub init-size : (e : Exchange) (room p : List ℕ) → length (tells e room (init p)) ≡ 2
+unfolding tells
+init-size e room p = refl
+
+pub reply-size : (e : Exchange) (room p : List ℕ) → length (tells e room (reply p)) ≡ 6
+unfolding tells
+reply-size e room p = refl
+
+-- nothing is counted, and the position stands behind what else is told
+module _ (e : Exchange) (room : List ℕ) (q : Call) (t : Bool) (b : List ℕ) (l : Laid e t b) where
+  pub value-read : not t ≡ false → Sized e → (k at n : ℕ) (told ex room′ : List ℕ) → left n told ex room′ [] ≡ positioned at (lentCall b room q [])
+      → length (tells e room q) ≡ k → countOf e room q ≡ 0 → secondOf e q ≡ 0 → at ≡ positionOf n q
+      → (back n 0 0 (getD told k 0) ex ≡ answered e room q) × (room′ ≡ roomAfter e room q)
+  value-read h z k at n told ex room′ c m f g p =
+      let x = position-aside (lentCall b room q []) at c in
+      let y = value-told e room q t b l h z [] n _ ex room′ [] (x .0) in
+      let o = ap (λ (w : List ℕ). getD w k 0) (x .1 ∙ ap (λ (w : List ℕ). w ++ at ∷ []) y) ∙ getD-at (tells e room q) at [] 0 k m ∙ p in
+      let v = value-step e room q t b l h z [] n _ ex room′ [] (x .0) 0 0 _ (λ w. (count-none e room q f, second-none e room q g)) o in
+      (v .0, v .1)
+
 -- ---- the start
 
 module _ (role m : ℕ) (vc vs ic is room : List ℕ) where
-  start-counts : (n : ℕ) → (0 ≡ started role m vc vs ic is n .count) × (0 ≡ started role m vc vs ic is n .second)
+  start-counts : (n : ℕ) → (0 ≡ started role m vc vs ic is n .count) × (0 ≡ started role m vc vs ic is n .second) × (0 ≡ started role m vc vs ic is n .position)
   unfolding started
-  start-counts n = by-test (eqb (startCause role m vc vs ic is n) 0) _ _ refl refl refl refl
+  start-counts n = by-test (eqb (startCause role m vc vs ic is n) 0) _ _ (refl, refl, refl) (refl, refl, refl)
     where
-      by-test : (t : Bool) (x y : Step) → 0 ≡ x .count → 0 ≡ x .second → 0 ≡ y .count → 0 ≡ y .second → (0 ≡ cond t x y .count) × (0 ≡ cond t x y .second)
-      by-test true x y a b c d = (a, b)
-      by-test false x y a b c d = (c, d)
+      None : Step → Type 0
+      None x = (0 ≡ x .count) × (0 ≡ x .second) × (0 ≡ x .position)
+
+      by-test : (t : Bool) (x y : Step) → None x → None y → None (cond t x y)
+      by-test true x y a b = a
+      by-test false x y a b = b
 
   pub start-value : (n : ℕ) (ex room′ : List ℕ) → left n [] ex room′ [] ≡ lentStart (zeros exchangeSize) role m vc vs ic is room
-      → (back n 0 0 ex ≡ started role m vc vs ic is (length room)) × (room′ ≡ startedRoom role m vc vs ic is room)
+      → (back n 0 0 0 ex ≡ started role m vc vs ic is (length room)) × (room′ ≡ startedRoom role m vc vs ic is room)
   unfolding lentStart startLeft back
   start-value n ex room′ l =
       let s = started role m vc vs ic is (length room) in
@@ -171,25 +198,25 @@ module _ (role m : ℕ) (vc vs ic is room : List ℕ) where
       l ∙ sym (size-taken (zeros exchangeSize) (untouched (zeros exchangeSize) room 0 []) (startLeft s (startedRoom role m vc vs ic is room)) refl) in
       let c = start-counts (length room) in
       let x = exchange-back (s .exchange) ex (start-storable role m vc vs ic is (length room)) (ap (λ (y : Left). y .exchange) k) in
-      ((λ i. record { number = k i .number; count = c .0 i; second = c .1 i; exchange = x i }), ap (λ (y : Left). y .room) k)
+      ((λ i. record { number = k i .number; count = c .0 i; second = c .1 i; exchange = x i; position = c .2 i }), ap (λ (y : Left). y .room) k)
 
 -- ---- to begin again
 
 module _ (e : Exchange) (room : List ℕ) (m : ℕ) (ic is : List ℕ) (t : Bool) (b : List ℕ) (l : Laid e t b) where
   -- one that the bytes cannot hold
-  pub again-long : not t ≡ true → (refusedStep 1 e ≡ againAnswered e (length room) m ic is) × (room ≡ againRoom e room m ic is)
+  pub again-long : not t ≡ true → (refusedStep 1 0 e ≡ againAnswered e (length room) m ic is) × (room ≡ againRoom e room m ic is)
   unfolding kind againAnswered
   again-long h =
       let n = long-not-again e (length room) m ic is (laid-long e t b l h) in
       let k = again-refused-keeps e room m ic is (λ z. let w : ⊥ = omega (arith, n, z) in w) in
-      ((λ i. record { number = sym n i; count = 0; second = 0; exchange = sym (k .0) i }), sym (k .1))
+      ((λ i. record { number = sym n i; count = 0; second = 0; exchange = sym (k .0) i; position = 0 }), sym (k .1))
 
   -- others
   pub again-value : not t ≡ false → Sized e → (n : ℕ) (ex room′ : List ℕ) → left n [] ex room′ [] ≡ lentAgain b room m ic is
-      → (back n 0 0 ex ≡ againAnswered e (length room) m ic is) × (room′ ≡ againRoom e room m ic is)
+      → (back n 0 0 0 ex ≡ againAnswered e (length room) m ic is) × (room′ ≡ againRoom e room m ic is)
   unfolding back againAnswered
   again-value h z n ex room′ c =
       let s = laid-short e t b l h z in
       let k : left n [] ex room′ [] ≡ byAgain e room m ic is = c ∙ ap (λ (y : List ℕ). lentAgain y room m ic is) (s .1) ∙ sym (as-again e room m ic is (s .0)) in
       let x = exchange-back (againAfter e (length room) m ic is) ex (again-storable e (length room) m ic is (s .0)) (ap (λ (y : Left). y .exchange) k) in
-      ((λ i. record { number = k i .number; count = 0; second = 0; exchange = x i }), ap (λ (y : Left). y .room) k)
+      ((λ i. record { number = k i .number; count = 0; second = 0; exchange = x i; position = 0 }), ap (λ (y : Left). y .room) k)

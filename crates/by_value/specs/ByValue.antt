@@ -29,5 +29,5 @@ unfoldable pub withExchange : List ℕ → Exchange → List ℕ
 withExchange b e = cond (fitsBytes e) (bySize b (encoded e) b) b
 
 -- the answer that the bytes give back
-unfoldable pub back : ℕ → ℕ → ℕ → List ℕ → Step
-back n count second b = record { number = n; count = count; second = second; exchange = bySize b (decoded b) blank }
+unfoldable pub back : ℕ → ℕ → ℕ → ℕ → List ℕ → Step
+back n count second at b = record { number = n; count = count; second = second; exchange = bySize b (decoded b) blank; position = at }

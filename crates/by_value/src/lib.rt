@@ -40,15 +40,16 @@ pub fn lay(b: &mut [u8], e: Exchange) -> bool
     true
 }
 
-// What a step answers that is not due: 1, nothing counted, the exchange as it was.
+// What a step answers that is not due: 1, nothing counted, the exchange as it was, no position.
 pub fn not_due(e: Exchange) -> Step
-    ensures { λ r. ⌜ r ≡ refusedStep 1 e ⌝ }
+    ensures { λ r. ⌜ r ≡ refusedStep 1 0 e ⌝ }
 {
     Step {
         number: 1,
         count: 0,
         second: 0,
         exchange: e,
+        position: 0,
     }
 }
 
@@ -64,8 +65,8 @@ pub fn step_number(n: u8, e: Exchange, room: usize, fed: u8) -> u8
 }
 
 // A step's answer by value, from what the step on bytes returned, told and left.
-pub fn answer(number: u8, count: u64, second: u64, b: &[u8]) -> Step
-    ensures { λ r. ⌜ r ≡ back number count second (now (b .entry)) ⌝ }
+pub fn answer(number: u8, count: u64, second: u64, position: u64, b: &[u8]) -> Step
+    ensures { λ r. ⌜ r ≡ back number count second position (now (b .entry)) ⌝ }
 {
     let exchange = values::load(b);
     Step {
@@ -73,5 +74,6 @@ pub fn answer(number: u8, count: u64, second: u64, b: &[u8]) -> Step
         count: count as usize,
         second: second as usize,
         exchange,
+        position: position as usize,
     }
 }

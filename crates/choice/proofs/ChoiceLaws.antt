@@ -21,7 +21,7 @@ use Rattle.names.specs.declared.Cursor.{Cursor}
 use Rattle.names.proofs.NameLaws.{upToBad-all}
 use Rattle.kexinit.specs.Reader.{kexinitCause, listPart, listNames, headRefused, headBy, openHead}
 use Rattle.kexinit.specs.declared.Head.{Head}
-use Rattle.kexinit.proofs.ReaderLaws.{head-refused, head-number, list-ahead, list-at}
+use Rattle.kexinit.proofs.ReaderLaws.{head-other, head-number, list-ahead, list-at}
 use Rattle.common.specs.Common.{any, everyName, common, methodIn, commonPart, firstOf}
 use Rattle.choice.specs.Choice.{listsFrom, allLists, payloadCause, judgedHead, methodFrom, hostKeyFrom, choiceCause, guessedWrong, choiceRefused, chosen}
 use Rattle.choice.specs.declared.Choice.{Choice}
@@ -105,9 +105,9 @@ module _ (p : List ℕ) where
       e ∙ ap (λ (k : ℕ). headBy k p) (payload-refused (λ q. z (n ∙ q)))
 
   -- a bad name
-  pub head-bad : kexinitCause p ≡ 0 → every listGood allLists ≡ false → headRefused 19 ≡ judgedHead p
+  pub head-bad : kexinitCause p ≡ 0 → every listGood allLists ≡ false → headRefused 19 0 ≡ judgedHead p
   unfolding payloadCause
-  head-bad h k = head-refused 19 p (λ z. omega arith) ∙ ap (λ (m : ℕ). headBy m p) (sym (orElse-second (kexinitCause p) _ h ∙ unless-fails _ 19 0 k))
+  head-bad h k = head-other 19 p (λ z. omega arith) refl ∙ ap (λ (m : ℕ). headBy m p) (sym (orElse-second (kexinitCause p) _ h ∙ unless-fails _ 19 0 k))
 
   -- no cause
   pub head-good : (h : Head) → h ≡ openHead p → kexinitCause p ≡ 0 → every listGood allLists ≡ true → h ≡ judgedHead p

@@ -37,6 +37,7 @@ fn judge_payload(payload: &[u8]) -> Head
                 cookie: Part { start: 0, len: 0 },
                 follows: false,
                 reserved: 0,
+                position: 0,
             };
         }
         i += 1;

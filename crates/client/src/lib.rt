@@ -19,7 +19,7 @@ pub fn own_c(e: Exchange, room: &mut [u8], c: &[u8], out: &mut [u8]) -> Step
     }
     let mut count = 0u64;
     let n = lent_client::own_c(&mut b, room, c, out, &mut count);
-    by_value::answer(n, count, 0, &b)
+    by_value::answer(n, count, 0, 0, &b)
 }
 
 // Client, REPLY read: K_S goes in ahead of C, and S behind it.
@@ -32,9 +32,9 @@ pub fn read_reply(e: Exchange, room: &mut [u8], payload: &[u8]) -> Step
     if !by_value::lay(&mut b, e) {
         return by_value::not_due(e);
     }
-    let mut places = [0u64; 6];
-    let n = lent_client::read_reply(&mut b, room, payload, &mut places);
-    by_value::answer(n, 0, 0, &b)
+    let mut told = [0u64; 7];
+    let n = lent_client::read_reply(&mut b, room, payload, &mut told);
+    by_value::answer(n, 0, 0, told[6], &b)
 }
 
 // Client, the verdict on signature and host key: writes K, or ends the exchange with 18.
@@ -55,5 +55,5 @@ pub fn verdict(
     }
     let mut count = 0u64;
     let n = lent_client::verdict(&mut b, room, signature, host_key, k_out, &mut count);
-    by_value::answer(n, count, 0, &b)
+    by_value::answer(n, count, 0, 0, &b)
 }

@@ -18,24 +18,17 @@ use Rattle.exchange.specs.declared.Stage.the-variants.{Failed}
 use Rattle.stored.specs.Stored.{stageOf, encoded, decoded, fits, byFit}
 use Rattle.stored.proofs.StoredLaws.{fit-taken}
 use Rattle.lent.specs.Lent.{left, toldSize, writes, bytesAfter, stepLeft, untouched, lentCall, againLeft, lentAgain}
+use Rattle.lent.proofs.AsStep.{number-left}
 use Rattle.lent.proofs.LentLaws.{call-refused, refused-stays, tells-none, outputs-stay}
 
 -- ---- the effects
 
 module _ (b room : List ℕ) (q : Call) (outs : List (List ℕ)) where
-  number-is : lentCall b room q outs .number ≡ byFit b (number (decoded b) room q) 1
-  unfolding lentCall byFit stepLeft
-  number-is = by-fit (fits b)
-    where
-      by-fit : (t : Bool) → cond t (stepLeft b (decoded b) room q outs) (untouched b room (toldSize q) outs) .number ≡ cond t (number (decoded b) room q) 1
-      by-fit true = refl
-      by-fit false = refl
-
   -- any number but 0 and a peer's fault: every lent byte is as it was, and all that is told is 0
   pub nothing-changes : let n = lentCall b room q outs .number in ¬ (n ≡ 0) → isFault n ≡ false → lentCall b room q outs ≡ left n (zeros (toldSize q)) b room outs
   nothing-changes h f =
       let n = lentCall b room q outs .number in
-      sym (call-refused b room q outs n number-is (λ g. absurd (false≢true (sym f ∙ g))) h n b room refl (refused-stays n b b _ f) (refused-stays n b room _ f))
+      sym (call-refused b room q outs n (number-left b room q outs) (λ g. absurd (false≢true (sym f ∙ g))) h n b room refl (refused-stays n b b _ f) (refused-stays n b room _ f))
 
   fault-fits : (n : ℕ) → n ≡ byFit b (number (decoded b) room q) 1 → isFault n ≡ true → fits b ≡ true
   unfolding byFit
@@ -52,8 +45,8 @@ module _ (b room : List ℕ) (q : Call) (outs : List (List ℕ)) where
   fault-leaves f =
       let n = lentCall b room q outs .number in
       let d = decoded b in
-      let w = fault-fits n number-is f in
-      let e : n ≡ number d room q = number-is ∙ sym (fit-taken b (number d room q) 1 w) in
+      let w = fault-fits n (number-left b room q outs) f in
+      let e : n ≡ number d room q = (number-left b room q outs) ∙ sym (fit-taken b (number d room q) 1 w) in
       let z : ¬ (number d room q ≡ 0) = λ (y : number d room q ≡ 0). false≢true (sym (ap isFault (e ∙ y)) ∙ f) in
       let k = kind-fault (number d room q) (ap isFault (sym e) ∙ f) in
       let x = ap (λ (t : Kind). byKind t (encoded (taken d room q)) b (encoded (ended (number d room q) (d .role) (d .method) (d .session)))) k ∙ ap (λ (y : ℕ). encoded (ended y (d .role) (d .method) (d .session))) (sym e) in
@@ -71,7 +64,7 @@ module _ (n role m : ℕ) (s : Session) (room : List ℕ) where
 
   pub ended-silent : (q : Call) (outs : List (List ℕ)) → lentCall (encoded (ended n role m s)) room q outs .number ≡ 1
   unfolding byFit
-  ended-silent q outs = number-is (encoded (ended n role m s)) room q outs ∙ by-fit (fits (encoded (ended n role m s)))
+  ended-silent q outs = number-left (encoded (ended n role m s)) room q outs ∙ by-fit (fits (encoded (ended n role m s)))
     where
       by-fit : (t : Bool) → cond t (number (decoded (encoded (ended n role m s))) room q) 1 ≡ 1
       by-fit true = dead-number (decoded (encoded (ended n role m s))) room n q failed-there

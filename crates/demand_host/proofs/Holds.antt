@@ -22,7 +22,7 @@ use Rattle.demand_host.specs.History.{History, no-call, own-c, read-init
 use Rattle.demand_host.specs.Told.{Told, start-then}
 use Rattle.demand_host.specs.Demand3.{Demand3}
 use Rattle.lent.proofs.Kept.{Storable, step-storable, start-storable, again-storable}
-use Rattle.lent.proofs.AsStep.{as-step}
+use Rattle.lent.proofs.AsStep.{as-step, position-aside}
 use Rattle.demand_host.proofs.Links.{as-start, found, method-kept, start-method, again-method, as-begun, method-there}
 
 -- a history from the bytes of x is the run of the definitions from x, and its bytes are those of the exchange that the run reaches
@@ -61,11 +61,11 @@ host-run (own-c κs a r s t h) x e k j =
     one-more (l .number-is) (l .room-is) (host-run h (exchangeAfter x (now (a .1 .0)) q) (l .exchange-is) (step-storable x (now (a .1 .0)) q k) (method-kept x (now (a .1 .0)) q ∙ j))
 host-run (read-init κs a r s t h) x e k j =
     let q = init (now (a .1 .1 .0)) in
-    let l = as-step (now (a .0)) x (now (a .1 .0)) q _ r _ _ _ _ e k t in
+    let l = as-step (now (a .0)) x (now (a .1 .0)) q _ r _ _ _ _ e k (position-aside _ _ t .0) in
     one-more (l .number-is) (l .room-is) (host-run h (exchangeAfter x (now (a .1 .0)) q) (l .exchange-is) (step-storable x (now (a .1 .0)) q k) (method-kept x (now (a .1 .0)) q ∙ j))
 host-run (read-reply κs a r s t h) x e k j =
     let q = reply (now (a .1 .1 .0)) in
-    let l = as-step (now (a .0)) x (now (a .1 .0)) q _ r _ _ _ _ e k t in
+    let l = as-step (now (a .0)) x (now (a .1 .0)) q _ r _ _ _ _ e k (position-aside _ _ t .0) in
     one-more (l .number-is) (l .room-is) (host-run h (exchangeAfter x (now (a .1 .0)) q) (l .exchange-is) (step-storable x (now (a .1 .0)) q k) (method-kept x (now (a .1 .0)) q ∙ j))
 host-run {m} (take-secret κs a r s t h) x e k j =
     let told : ℕ → Call = λ (n : ℕ). secret (classicalOf (a .1 .1 .0) (a .1 .1 .1 .0)) (now (a .1 .1 .1 .1 .0)) (kemOf n (a .1 .1 .1 .1 .1 .0)) (now (a .1 .1 .1 .1 .1 .1 .0)) (now (a .1 .1 .1 .1 .1 .1 .1 .0)) (now (a .1 .1 .1 .1 .1 .1 .1 .1 .0)) in

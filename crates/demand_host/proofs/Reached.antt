@@ -2,14 +2,15 @@
 -- methods one is complete in both. Assumes nothing.
 use Prim.Native.Nat.{ℕ, _≤_}
 use mathlib.Core.Path.{_≡_, refl, sym, subst, ap, _∙_}
-use mathlib.Core.List.{List, [], _∷_}
+use mathlib.Core.List.{List, [], _∷_, _++_}
 use mathlib.Core.Bool.{Bool, true, false, cond}
 use lib.ListN.{length, length-replicate}
 use base.Fml.{Lft, GName}
 use denote.Ref.{RefT, now}
 use Rattle.limits.specs.Limits.{hSize, exchangeSize, roomLeast}
 use Rattle.buffers.specs.Bytes.{zeros}
-use Rattle.messages.specs.Messages.{initBytes}
+use Rattle.messages.specs.Position.{position}
+use Rattle.messages.specs.Messages.{initBytes, initLayout, replyLayout}
 use Rattle.exchange.specs.Causes.{methodOk, roleOk, startCause}
 use Rattle.exchange.specs.Steps.{Call, ownC, init, reply, secret, sign, verdict, number, replyOf, answered, handedH, exchangeAfter, roomAfter, outputAfter, started, startedRoom}
 use Rattle.exchange.specs.Record.{isComplete}
@@ -31,7 +32,7 @@ use Rattle.demand_host.specs.History.{History, no-call, own-c, read-init
 use Rattle.demand_host.specs.Told.{Told, start-then}
 use Rattle.demand_host.specs.Completed.{Completed, CompletedTwice}
 use Rattle.lent.proofs.Kept.{Storable, step-storable, start-storable, again-storable}
-use Rattle.lent.proofs.AsStep.{as-called, as-again}
+use Rattle.lent.proofs.AsStep.{as-called, as-again, position-behind}
 use Rattle.demand_host.proofs.Links.{start-called, found, method-kept, start-method, again-method, method-there}
 use Rattle.demand_host.proofs.Holds.{host-run}
 
@@ -103,17 +104,17 @@ module _ (l : Lft) (g : GName) where
     unfolding lent
     init-then p k =
         let q : Call = init p in
-        read-init (l, (l, (l, (l, tt)))) (lent (encoded x), (lent room, (lent p, (lent (zeros 2), tt)))) (number x room q)
-        (lent (encoded (exchangeAfter x room q)), (lent (roomAfter x room q), (lent p, (lent (tells x room q), tt))))
-        (as-called x room q [] h) k
+        read-init (l, (l, (l, (l, tt)))) (lent (encoded x), (lent room, (lent p, (lent (zeros 3), tt)))) (number x room q)
+        (lent (encoded (exchangeAfter x room q)), (lent (roomAfter x room q), (lent p, (lent (tells x room q ++ position (number x room q) initLayout p ∷ []), tt))))
+        (position-behind (as-called x room q [] h) refl) k
 
     reply-then : (p : List ℕ) → Reaches m (exchangeAfter x room (reply p)) (roomAfter x room (reply p)) qs → Reaches m x room (step (reply p) ∷ qs)
     unfolding lent
     reply-then p k =
         let q : Call = reply p in
-        read-reply (l, (l, (l, (l, tt)))) (lent (encoded x), (lent room, (lent p, (lent (zeros 6), tt)))) (number x room q)
-        (lent (encoded (exchangeAfter x room q)), (lent (roomAfter x room q), (lent p, (lent (tells x room q), tt))))
-        (as-called x room q [] h) k
+        read-reply (l, (l, (l, (l, tt)))) (lent (encoded x), (lent room, (lent p, (lent (zeros 7), tt)))) (number x room q)
+        (lent (encoded (exchangeAfter x room q)), (lent (roomAfter x room q), (lent p, (lent (tells x room q ++ position (number x room q) replyLayout p ∷ []), tt))))
+        (position-behind (as-called x room q [] h) refl) k
 
     secret-then : x .method ≡ m → (gv n : ℕ) (v : List ℕ) (km : ℕ) (kPq ks s : List ℕ) → let q = secret (classicalOf gv n) v (kemOf m km) kPq ks s in
         Reaches m (exchangeAfter x room q) (roomAfter x room q) qs → Reaches m x room (step q ∷ qs)

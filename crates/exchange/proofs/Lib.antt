@@ -11,3 +11,4 @@ pub mod Sample
 pub mod Completes
 pub mod TheExchange
 pub mod SessionLaws
+pub mod Positions

@@ -35,8 +35,8 @@ start-fresh role m vc vs ic is room = by-test (eqb (startCause role m vc vs ic i
   where
     by-test : (t : Bool)
         → cond {A = Step} t
-        (record { number = 0; count = 0; second = 0; exchange = record { stage = Started; role = role; method = m; lens = lengthsOf vc vs ic is; k = zeros kSize; h = zeros hSize; session = noSession } })
-        (record { number = startCause role m vc vs ic is room; count = 0; second = 0; exchange = ended (startCause role m vc vs ic is room) 0 0 noSession }) .exchange .session ≡ noSession
+        (record { number = 0; count = 0; second = 0; exchange = record { stage = Started; role = role; method = m; lens = lengthsOf vc vs ic is; k = zeros kSize; h = zeros hSize; session = noSession }; position = 0 })
+        (record { number = startCause role m vc vs ic is room; count = 0; second = 0; exchange = ended (startCause role m vc vs ic is room) 0 0 noSession; position = 0 }) .exchange .session ≡ noSession
     by-test true = refl
     by-test false = refl
 

@@ -757,8 +757,8 @@ start-zero role m vc vs ic is room e = by-test (eqb (startCause role m vc vs ic 
   where
     by-test : (t : Bool) → eqb (startCause role m vc vs ic is room) 0 ≡ t
         → cond {A = Step} t
-        (record { number = 0; count = 0; second = 0; exchange = record { stage = Started; role = role; method = m; lens = lengthsIn (fieldsOf vc vs ic is [] [] [] []); k = zeros kSize; h = zeros hSize; session = noSession } })
-        (record { number = startCause role m vc vs ic is room; count = 0; second = 0; exchange = ended (startCause role m vc vs ic is room) 0 0 noSession }) .number ≡ 0
+        (record { number = 0; count = 0; second = 0; exchange = record { stage = Started; role = role; method = m; lens = lengthsIn (fieldsOf vc vs ic is [] [] [] []); k = zeros kSize; h = zeros hSize; session = noSession }; position = 0 })
+        (record { number = startCause role m vc vs ic is room; count = 0; second = 0; exchange = ended (startCause role m vc vs ic is room) 0 0 noSession; position = 0 }) .number ≡ 0
         → startCause role m vc vs ic is room ≡ 0
     by-test true p q = eqb-true (startCause role m vc vs ic is room) 0 p
     by-test false p q = q

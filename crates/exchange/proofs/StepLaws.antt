@@ -2,7 +2,7 @@
 use Prim.Native.Nat.{ℕ, _+_, _≤_}
 use mathlib.Core.Path.{_≡_, refl, sym, ap, _∙_}
 use mathlib.Core.List.{List}
-use mathlib.Core.Bool.{Bool, true, false, cond, _&&_}
+use mathlib.Core.Bool.{Bool, true, false, cond, _&&_, _||_}
 use native.Mathlib.Omega.{arith}
 use lib.ListN.{length}
 use lib.Dec.{eqb, ltb}
@@ -17,13 +17,15 @@ use Rattle.methods.specs.Form.{lengthFits}
 use Rattle.methods.specs.declared.Method.{Method}
 use Rattle.methods.specs.Sound.{Sound}
 use Rattle.methods.proofs.FormLaws.{length-most}
+use Rattle.messages.specs.Messages.{initLayout, replyLayout}
+use Rattle.messages.proofs.PositionLaws.{position-none}
 use Rattle.transcript.specs.Fields.{fieldLength, fieldSize}
 use Rattle.transcript.proofs.RoomLaws.{fieldLength-most}
 use Rattle.transcript.proofs.FieldLaws.{fieldSize-fits, sizeSum-fits}
 use Rattle.exchange.specs.Causes.{blobOk, initCause, replyCause}
 use Rattle.exchange.specs.Numbers.{kind, byKind}
 use Rattle.exchange.specs.Record.{ended, clientNext, serverNext, nextStep, hasC, hasS, cFits, sFits, due}
-use Rattle.exchange.specs.Steps.{Call, init, reply, stepNo, fedCause, stepNumber, number, headEnd, fieldsEnd, headSize, fieldsSize, filled, taken, countOf, secondOf, exchangeAfter, roomAfter, answered, handedH, outputAfter, refusedStep, refusedRoom}
+use Rattle.exchange.specs.Steps.{Call, ownC, init, reply, secret, sign, verdict, stepNo, fedCause, stepNumber, number, headEnd, fieldsEnd, headSize, fieldsSize, filled, taken, countOf, secondOf, exchangeAfter, roomAfter, positionOf, answered, handedH, outputAfter, refusedStep, refusedRoom}
 use Rattle.exchange.specs.declared.Stage.{Stage}
 use Rattle.exchange.specs.declared.Stage.the-variants.{Started, CSent, InitRead, ReplyRead, SecretDone, Complete, Failed}
 use Rattle.exchange.specs.declared.Lengths.{Lengths}
@@ -34,9 +36,19 @@ use Rattle.exchange.proofs.KindLaws.{kind-other, kind-same}
 
 -- ---- by its number
 
+-- an answer of any number but 12 and 13 has no position
+pub position-other : (n : ℕ) (q : Call) → eqb n 12 || eqb n 13 ≡ false → 0 ≡ positionOf n q
+unfolding positionOf
+position-other n (ownC c out) h = refl
+position-other n (init p) h = position-none initLayout p n h
+position-other n (reply p) h = position-none replyLayout p n h
+position-other n (secret cl x kem kPq ks s) h = refl
+position-other n (sign g out kOut) h = refl
+position-other n (verdict a b kOut) h = refl
+
 module _ (e : Exchange) (room : List ℕ) (q : Call) where
-  -- a refused step's answer and room, by its number alone
-  pub step-refused : (n : ℕ) → n ≡ number e room q → (n ≡ 0 → ⊥) → (refusedStep n e ≡ answered e room q) × (refusedRoom n room ≡ roomAfter e room q)
+  -- a refused step's answer and room: by its number alone, but for the position
+  pub step-refused : (n : ℕ) → n ≡ number e room q → (n ≡ 0 → ⊥) → (refusedStep n (positionOf n q) e ≡ answered e room q) × (refusedRoom n room ≡ roomAfter e room q)
   unfolding answered exchangeAfter roomAfter
   step-refused n m h =
       let z : number e room q ≡ 0 → ⊥ = λ y. h (m ∙ y) in
@@ -45,16 +57,17 @@ module _ (e : Exchange) (room : List ℕ) (q : Call) where
       let x : byKind (kind n) e e (ended n (e .role) (e .method) (e .session)) ≡ byKind (kind (number e room q)) (taken e room q) e (ended (number e room q) (e .role) (e .method) (e .session)) =
       (λ i. byKind (kind (m i)) e e (ended (m i) (e .role) (e .method) (e .session)))
       ∙ kind-other (number e room q) e (taken e room q) e (ended (number e room q) (e .role) (e .method) (e .session)) z in (
-        (λ i. record { number = m i; count = sym c i; second = sym d i; exchange = x i }),
+        (λ i. record { number = m i; count = sym c i; second = sym d i; exchange = x i; position = positionOf (m i) q }),
         (λ i. byKind (kind (m i)) room room (zeros (length room))) ∙ kind-other (number e room q) room (filled e room q) room (zeros (length room)) z,
       )
 
   -- an accepted step's
   pub step-accepted : number e room q ≡ 0
-      → (_≡_ {A = Step} (record { number = 0; count = countOf e room q; second = secondOf e q; exchange = taken e room q }) (answered e room q))
+      → (_≡_ {A = Step} (record { number = 0; count = countOf e room q; second = secondOf e q; exchange = taken e room q; position = 0 }) (answered e room q))
       × (filled e room q ≡ roomAfter e room q)
   unfolding answered exchangeAfter roomAfter kind
-  step-accepted z = (rw z, rw z)
+  step-accepted z =
+      (rw z (λ i. record { number = 0; count = countOf e room q; second = secondOf e q; exchange = taken e room q; position = position-other 0 q refl i }), rw z)
 
   -- H: zeros on a refusal, else that of the exchange
   pub handed-refused : ¬ (number e room q ≡ 0) → zeros hSize ≡ handedH e room q

@@ -50,7 +50,7 @@ againRoom e room m ic is = cond (eqb (againNumber e (length room) m ic is) 0) (o
 
 -- its answer: nothing is counted
 unfoldable pub againAnswered : Exchange → ℕ → ℕ → List ℕ → List ℕ → Step
-againAnswered e room m ic is = record { number = againNumber e room m ic is; count = 0; second = 0; exchange = againAfter e room m ic is }
+againAnswered e room m ic is = record { number = againNumber e room m ic is; count = 0; second = 0; exchange = againAfter e room m ic is; position = 0 }
 
 -- ---- a call of a list
 

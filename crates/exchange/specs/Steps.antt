@@ -10,7 +10,8 @@ use Rattle.wire.specs.Causes.{causeIf, causeUnless}
 use Rattle.wire.specs.Parts.{nothing}
 use Rattle.wire.specs.declared.Part.{Part}
 use Rattle.methods.specs.Rows.{rowOf}
-use Rattle.messages.specs.Messages.{initBytes, replyBytes, fieldPart, fieldOf}
+use Rattle.messages.specs.Position.{position}
+use Rattle.messages.specs.Messages.{initBytes, replyBytes, initLayout, replyLayout, fieldPart, fieldOf}
 use Rattle.transcript.specs.Fields.{field, fieldLength, fieldSize, sizeSum}
 use Rattle.exchange.specs.Causes.{startCause, ownCCause, initCause, replyCause, secretCause, signCause, verdictCause, kOf, hOf}
 use Rattle.exchange.specs.Numbers.{kind, byKind}
@@ -185,6 +186,15 @@ secondOf e (secret cl x kem kPq ks s) = 0
 secondOf e (sign g out kOut) = kLength (e .k)
 secondOf e (verdict a b kOut) = 0
 
+-- where a payload that was read breaks, by the number that answers it: 0 but for 12 and 13
+unfoldable pub positionOf : ℕ → Call → ℕ
+positionOf n (ownC c out) = 0
+positionOf n (init p) = position n initLayout p
+positionOf n (reply p) = position n replyLayout p
+positionOf n (secret cl x kem kPq ks s) = 0
+positionOf n (sign g out kOut) = 0
+positionOf n (verdict a b kOut) = 0
+
 -- a call's answer
 unfoldable pub answered : Exchange → List ℕ → Call → Step
 answered e room q = record {
@@ -192,6 +202,7 @@ answered e room q = record {
   count = byKind (kind (number e room q)) (countOf e room q) 0 0;
   second = byKind (kind (number e room q)) (secondOf e q) 0 0;
   exchange = exchangeAfter e room q;
+  position = positionOf (number e room q) q;
 }
 
 -- H as it is handed out: the H that the exchange now has; zeros on a refusal
@@ -210,9 +221,9 @@ secretAnswered e room q = record { step = answered e room q; h = handedH e room 
 unfoldable pub outputAfter : ℕ → List ℕ → List ℕ → List ℕ
 outputAfter n out b = byKind (kind n) (onto out b) out out
 
--- what a refused step answers and leaves, by its number alone
-abbrev pub refusedStep : ℕ → Exchange → Step
-refusedStep n e = record { number = n; count = 0; second = 0; exchange = byKind (kind n) e e (ended n (e .role) (e .method) (e .session)) }
+-- what a refused step answers and leaves, by its number and its position alone
+abbrev pub refusedStep : ℕ → ℕ → Exchange → Step
+refusedStep n at e = record { number = n; count = 0; second = 0; exchange = byKind (kind n) e e (ended n (e .role) (e .method) (e .session)); position = at }
 
 abbrev pub refusedRoom : ℕ → List ℕ → List ℕ
 refusedRoom n room = byKind (kind n) room room (zeros (length room))
@@ -231,8 +242,8 @@ lengthsOf vc vs ic is = record { vc = length vc; vs = length vs; ic = length ic;
 unfoldable pub started : ℕ → ℕ → List ℕ → List ℕ → List ℕ → List ℕ → ℕ → Step
 started role m vc vs ic is room =
     cond (eqb (startCause role m vc vs ic is room) 0)
-    (record { number = 0; count = 0; second = 0; exchange = record { stage = Started; role = role; method = m; lens = lengthsOf vc vs ic is; k = zeros kSize; h = zeros hSize; session = noSession } })
-    (record { number = startCause role m vc vs ic is room; count = 0; second = 0; exchange = ended (startCause role m vc vs ic is room) 0 0 noSession })
+    (record { number = 0; count = 0; second = 0; exchange = record { stage = Started; role = role; method = m; lens = lengthsOf vc vs ic is; k = zeros kSize; h = zeros hSize; session = noSession }; position = 0 })
+    (record { number = startCause role m vc vs ic is room; count = 0; second = 0; exchange = ended (startCause role m vc vs ic is room) 0 0 noSession; position = 0 })
 
 unfoldable pub startedRoom : ℕ → ℕ → List ℕ → List ℕ → List ℕ → List ℕ → List ℕ → List ℕ
 startedRoom role m vc vs ic is room =

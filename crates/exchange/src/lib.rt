@@ -63,12 +63,14 @@ pub enum Kem {
     Done,
 }
 
-// What a step answers: its number, its counts (the second only at the signature step) and the exchange as it now is.
+// What a step answers: its number, its counts (the second only at the signature step), the exchange as it now is, and where a payload
+// that is answered 12 or 13 breaks.
 pub struct Step {
     pub number: u8,
     pub count: usize,
     pub second: usize,
     pub exchange: Exchange,
+    pub position: usize,
 }
 
 // What the secret step answers: a step's answer, and H with zeros after it.

@@ -60,7 +60,7 @@ reads g = record {
       (seq (assign (place 8 []) (aggregate (copy (place 7 []) ∷ copy (place 2 (field 1 ∷ [])) ∷ [])))
       (seq (call g (copy (place 6 []) ∷ copy (place 8 []) ∷ copy (place 3 []) ∷ []) (place 5 []))
       (seq (assign (place 9 []) (rvOpd (copy (place 4 []))))
-      (seq (assign (place 0 []) (aggregate (copy (place 5 (field 0 ∷ [])) ∷ copy (place 5 (field 1 ∷ [])) ∷ copy (place 5 (field 2 ∷ [])) ∷ copy (place 9 []) ∷ []))) return))))));
+      (seq (assign (place 0 []) (aggregate (copy (place 5 (field 0 ∷ [])) ∷ copy (place 5 (field 1 ∷ [])) ∷ copy (place 5 (field 2 ∷ [])) ∷ copy (place 9 []) ∷ copy (place 5 (field 3 ∷ [])) ∷ []))) return))))));
 }
 
 abbrev stayed : Stays (f.ended .signature .params) (f.ended .kept)
@@ -147,7 +147,7 @@ module _ {M : Type 1} (𝓤 : URA M) (H : Heap 𝓤) (A : Atoms 𝓤) (W : Given
         fsplit ! $ move ! (2 ∷ []) $ split ! $ move ! (0 ∷ 4 ∷ 2 ∷ []) $ comes-back ! tt (zs .0) l₄ 0 (λ k.
         -- [_4; the tokens; what is said of the room; _9; …; _0; …]
         assigns ! (of-opd ! (load ! (from ! (stop !)) (look ! 0 refl))) (from ! (stop !)) (init ! 3 refl (LL.lawful X.the-type X′.the-laws 𝓤 H A W .typed (zs .0) _ k .0)) $
-        assigns ! (agg ! (and-then ! (load ! (from ! (fld ! refl (stop !))) (look-in ! 11 (sub ! 0 refl (whole !)))) (and-then ! (load ! (from ! (fld ! refl (stop !))) (look-in ! 11 (sub ! 1 refl (whole !)))) (and-then ! (load ! (from ! (fld ! refl (stop !))) (look-in ! 11 (sub ! 2 refl (whole !)))) (and-then ! (load ! (from ! (stop !)) (look ! 3 refl)) (no-more !))))))
+        assigns ! (agg ! (and-then ! (load ! (from ! (fld ! refl (stop !))) (look-in ! 11 (sub ! 0 refl (whole !)))) (and-then ! (load ! (from ! (fld ! refl (stop !))) (look-in ! 11 (sub ! 1 refl (whole !)))) (and-then ! (load ! (from ! (fld ! refl (stop !))) (look-in ! 11 (sub ! 2 refl (whole !)))) (and-then ! (load ! (from ! (stop !)) (look ! 3 refl)) (and-then ! (load ! (from ! (fld ! refl (stop !))) (look-in ! 11 (sub ! 3 refl (whole !)))) (no-more !)))))))
         (from ! (stop !)) (init ! 20 refl (LL.lawful S.the-type S′.the-laws 𝓤 H A W .typed (made r (zs .0)) _ (makes-step r w (zs .0) is k) .0)) $
         returns ! (look ! 20 refl) $ forget ! 0 refl $ forget ! 3 refl $ forget ! 5 refl $ forget ! 7 refl $ forget ! 9 refl $ forget ! 11 refl $ forget ! 14 refl $ forget ! 16 refl $ forget ! 18 refl $ forget ! 20 refl $
         move ! (20 ∷ 21 ∷ []) $ free1 ! $ move ! (18 ∷ 19 ∷ []) $ free1 ! $ move ! (16 ∷ 17 ∷ []) $ free1 ! $ move ! (14 ∷ 15 ∷ []) $ free1 ! $ move ! (0 ∷ 13 ∷ []) $ free1 ! $

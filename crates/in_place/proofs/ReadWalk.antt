@@ -59,7 +59,7 @@ reads f = record {
       (seq (assign (place 7 []) (aggregate (copy (place 6 []) ∷ copy (place 2 (field 1 ∷ [])) ∷ [])))
       (seq (call f (copy (place 5 []) ∷ copy (place 7 []) ∷ copy (place 3 []) ∷ []) (place 4 []))
       (seq (assign (place 1 (deref X′.mir ∷ [])) (rvOpd (copy (place 4 (field 3 ∷ [])))))
-      (seq (assign (place 0 []) (aggregate (copy (place 4 (field 0 ∷ [])) ∷ copy (place 4 (field 1 ∷ [])) ∷ copy (place 4 (field 2 ∷ [])) ∷ []))) return)))));
+      (seq (assign (place 0 []) (aggregate (copy (place 4 (field 0 ∷ [])) ∷ copy (place 4 (field 1 ∷ [])) ∷ copy (place 4 (field 2 ∷ [])) ∷ copy (place 4 (field 4 ∷ [])) ∷ []))) return)))));
 }
 
 abbrev stayed : Stays (f.ended .signature .params) (f.ended .kept)
@@ -150,7 +150,7 @@ module _ {M : Type 1} (𝓤 : URA M) (H : Heap 𝓤) (A : Atoms 𝓤) (W : Given
         land ! (from ! (stop !)) (init ! 12 refl (LL.lawful S.the-type S′.the-laws 𝓤 H A W .typed r _ is .0)) $ rewrite ! 12 (λ (u : Val). ‵ (fat fullShare S′.mir l₄ 0 u)) (ap only (LL.tells S.the-type S′.the-laws r _ is)) refl $
         let fields = LL.owed S.the-type S′.the-laws r _ is in
         assigns ! (of-opd ! (load ! (from ! (fld ! refl (stop !))) (look-in ! 12 (sub ! 3 refl (whole !))))) (from ! (hop ! (look ! 18 refl) (stop !))) (store-raw ! 2 refl (LL.lawful X.the-type X′.the-laws 𝓤 H A W .typed (r .exchange) _ (fields .1 .1 .1 .0) .0)) $
-        assigns ! (agg ! (and-then ! (load ! (from ! (fld ! refl (stop !))) (look-in ! 12 (sub ! 0 refl (whole !)))) (and-then ! (load ! (from ! (fld ! refl (stop !))) (look-in ! 12 (sub ! 1 refl (whole !)))) (and-then ! (load ! (from ! (fld ! refl (stop !))) (look-in ! 12 (sub ! 2 refl (whole !)))) (no-more !)))))
+        assigns ! (agg ! (and-then ! (load ! (from ! (fld ! refl (stop !))) (look-in ! 12 (sub ! 0 refl (whole !)))) (and-then ! (load ! (from ! (fld ! refl (stop !))) (look-in ! 12 (sub ! 1 refl (whole !)))) (and-then ! (load ! (from ! (fld ! refl (stop !))) (look-in ! 12 (sub ! 2 refl (whole !)))) (and-then ! (load ! (from ! (fld ! refl (stop !))) (look-in ! 12 (sub ! 4 refl (whole !)))) (no-more !))))))
         (from ! (stop !)) (init ! 20 refl (LL.lawful R.the-type R′.the-laws 𝓤 H A W .typed (countsOf r) _ (answers r w is) .0)) $
         move ! (2 ∷ 3 ∷ 4 ∷ 5 ∷ []) $ closed ! tt (r .exchange) b o (fields .1 .1 .1 .0) $
         -- [the lent exchange; its token; what is said of last values; the tokens; _7; …; _0; …]

@@ -10,7 +10,7 @@ use Rattle.in_place.specs.declared.SecretCounts.{SecretCounts}
 
 -- a step's answer without its exchange
 abbrev pub countsOf : Step → Counts
-countsOf r = record { number = r .number; count = r .count; second = r .second }
+countsOf r = record { number = r .number; count = r .count; second = r .second; position = r .position }
 
 -- what the step in place answers
 abbrev pub inPlace : Exchange → List ℕ → Call → Counts

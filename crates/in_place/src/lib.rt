@@ -10,11 +10,12 @@ ghost use lib.ListN.{length};
 ghost use Rattle.exchange.specs.Steps.{init, reply, secret as secretStep, verdict as verdictStep, number, answered, secretAnswered, roomAfter, outputAfter};
 ghost use Rattle.in_place.specs.InPlace.{inPlace, secretInPlace, left};
 
-// What a step in place answers: its number and its counts.
+// What a step in place answers: its number, its counts, and where a payload that is answered 12 or 13 breaks.
 pub struct Counts {
     pub number: u8,
     pub count: usize,
     pub second: usize,
+    pub position: usize,
 }
 
 // What the secret in place answers: H beside them.
@@ -37,6 +38,7 @@ pub fn read_init_in(e: &mut Exchange, room: &mut [u8], payload: &[u8]) -> Counts
         number: r.number,
         count: r.count,
         second: r.second,
+        position: r.position,
     }
 }
 
@@ -52,6 +54,7 @@ pub fn read_reply_in(e: &mut Exchange, room: &mut [u8], payload: &[u8]) -> Count
         number: r.number,
         count: r.count,
         second: r.second,
+        position: r.position,
     }
 }
 
@@ -98,6 +101,7 @@ pub fn verdict_in(
         number: r.number,
         count: r.count,
         second: r.second,
+        position: r.position,
     }
 }
 
@@ -114,6 +118,7 @@ pub fn read_init_on_copy(e: Exchange, room: &mut [u8], payload: &[u8]) -> Step
         count: a.count,
         second: a.second,
         exchange: y,
+        position: a.position,
     }
 }
 
@@ -129,6 +134,7 @@ pub fn read_reply_on_copy(e: Exchange, room: &mut [u8], payload: &[u8]) -> Step
         count: a.count,
         second: a.second,
         exchange: y,
+        position: a.position,
     }
 }
 
@@ -154,6 +160,7 @@ pub fn take_secret_on_copy(
             count: a.count,
             second: a.second,
             exchange: y,
+            position: 0,
         },
         h: a.h,
     }
@@ -177,5 +184,6 @@ pub fn verdict_on_copy(
         count: a.count,
         second: a.second,
         exchange: y,
+        position: a.position,
     }
 }

@@ -1,6 +1,6 @@
 // Drives a captured exchange, the fields of its standard input, through the steps in place on a copy: as client with a call that is not
-// due, as server, and as server with a peer's fault. For each call it prints the number, the count and a checksum of the room, and for the
-// secret H. What it prints is held to the file `stdout`, which tests/expect_in_place.py computes from the capture.
+// due, as server, and as server with a peer's fault, twice. For each call it prints the number, the count, the position and a checksum of the
+// room, and for the secret H. What it prints is held to the file `stdout`, which tests/expect_in_place.py computes from the capture.
 use exchange::Classical;
 use exchange::Exchange;
 use exchange::Kem;
@@ -57,6 +57,7 @@ fn printed(name: &[u8], st: Step, room: &[u8]) -> Exchange {
     text(name);
     item(st.number as usize);
     item(st.count);
+    item(st.position);
     item(sum(room));
     text(b"\n");
     st.exchange
@@ -171,10 +172,15 @@ fn client(rec: &[u8], room: &mut [u8]) {
     verdict(b, room);
 }
 
-// A REPLY for an INIT is the peer's fault, and ends the exchange.
+// A REPLY for an INIT is the peer's fault, and so is an INIT that is cut: both end the exchange.
 fn server(rec: &[u8], first: &[u8], room: &mut [u8]) {
     let a = init(start(2, rec, room), first, room);
     secret(a, rec, room);
+}
+
+// Its first bytes.
+fn cut(payload: &[u8]) -> &[u8] {
+    wire::part_of(payload, Part { start: 0, len: 40 })
 }
 
 fn main() {
@@ -185,4 +191,5 @@ fn main() {
     client(rec, &mut room);
     server(rec, field(rec, INIT), &mut room);
     server(rec, field(rec, REPLY), &mut room);
+    server(rec, cut(field(rec, INIT)), &mut room);
 }

@@ -1,22 +1,27 @@
 -- Laws of `specs/Reader.antt`: a law for each answer, and what a caller knows by the number. Assumes nothing.
 use Prim.Native.Nat.{ℕ, _+_, _-_, _≤_, _<_}
-use mathlib.Core.Path.{_≡_, refl, sym, ap, _∙_}
+use mathlib.Core.Path.{_≡_, refl, sym, ap, subst, _∙_}
 use mathlib.Core.List.{List}
-use mathlib.Core.Bool.{Bool, true, false, cond, not}
+use mathlib.Core.Bool.{Bool, true, false, cond, not, _||_}
 use native.Mathlib.Omega.{arith}
 use lib.ListN.{length, getD}
 use lib.Dec.{eqb}
 use borrow.Author.Tests.{eq-eqb, ne-eqb, eqb-true, eqb-false}
-use Rattle.limits.specs.Limits.{cookieSize, listCount}
+use Rattle.limits.specs.Limits.{kexinitMost, cookieSize, listCount}
 use Rattle.limits.specs.Range.{within}
 use Rattle.limits.proofs.RangeLaws.{within-least, within-most}
+use Rattle.buffers.specs.Bytes.{Bytes}
+use Rattle.wire.specs.Causes.{causeUnless}
 use Rattle.wire.specs.Parts.{part}
 use Rattle.wire.specs.Strings.{numberAt}
 use Rattle.wire.specs.declared.Part.{Part}
 use Rattle.wire.proofs.CauseLaws.{unless-holds, unless-fails, unless-none}
 use Rattle.wire.proofs.StringsLaws.{part-within}
 use Rattle.wire.proofs.WalkLaws.{whole-behind, walk-whole}
+use Rattle.messages.specs.Position.{breaksAt, position, CutAt, LeftOverAt, Ordered, PositionTold}
 use Rattle.messages.proofs.PayloadLaws.{cause-known}
+use Rattle.messages.proofs.PositionLaws.{position-some, position-none}
+use Rattle.messages.proofs.CutLaws.{cut-found, left-over-found, position-told}
 use Rattle.names.specs.Cursor.{exhausted, cursorOf, ahead}
 use Rattle.names.specs.declared.Cursor.{Cursor}
 use Rattle.names.proofs.CursorLaws.{ahead-list}
@@ -24,11 +29,19 @@ use Rattle.kexinit.specs.Reader.{kexinitLayout, kexinitCause, booleanAt,
 use Rattle.kexinit.specs.declared.Head.{Head}
 use Rattle.kexinit.specs.declared.Opened.{Opened}
 
+-- KEXINIT's layout, as a reader meets it
+kexinit-ordered : Ordered kexinitLayout
+kexinit-ordered = record { behind-number = omega arith; boolean-behind = omega arith }
+
 -- ---- headBy
 
-pub head-refused : (k : ℕ) (p : List ℕ) → (k ≡ 0 → ⊥) → headRefused k ≡ headBy k p
+pub head-refused : (k : ℕ) (p : List ℕ) → (k ≡ 0 → ⊥) → headRefused k (position k kexinitLayout p) ≡ headBy k p
 unfolding headBy
 head-refused k p z = rw (ne-eqb k 0 z)
+
+-- of another number than 12 and 13
+pub head-other : (k : ℕ) (p : List ℕ) → (k ≡ 0 → ⊥) → eqb k 12 || eqb k 13 ≡ false → headRefused k 0 ≡ headBy k p
+head-other k p z h = ap (headRefused k) (position-none kexinitLayout p k h) ∙ head-refused k p z
 
 pub head-found : (k : ℕ) (p : List ℕ) → k ≡ 0 → headAt p ≡ headBy k p
 unfolding headBy
@@ -42,12 +55,22 @@ head-number k p = by-test (eqb k 0) refl
     by-test true e = let z = eqb-true k 0 e in sym (ap (λ (h : Head). h .number) (head-found k p z)) ∙ sym z
     by-test false e = sym (ap (λ (h : Head). h .number) (head-refused k p (eqb-false k 0 e)))
 
+-- and the position is the number's
+head-position : (k : ℕ) (p : List ℕ) → headBy k p .position ≡ position k kexinitLayout p
+head-position k p = by-test (eqb k 0) refl
+  where
+    by-test : (t : Bool) → eqb k 0 ≡ t → headBy k p .position ≡ position k kexinitLayout p
+    by-test true e =
+        let z = eqb-true k 0 e in
+        sym (ap (λ (h : Head). h .position) (head-found k p z)) ∙ position-none kexinitLayout p 0 refl ∙ ap (λ (m : ℕ). position m kexinitLayout p) (sym z)
+    by-test false e = sym (ap (λ (h : Head). h .position) (head-refused k p (eqb-false k 0 e)))
+
 -- a head as the code answers it
 pub head-read : (p : List ℕ) (place reserved : ℕ) → kexinitCause p ≡ 0 → place ≡ booleanAt p → reserved ≡ numberAt p (place + 1)
-    → _≡_ {A = Head} (record { number = 0; cookie = part 1 cookieSize; follows = not (eqb (getD p place 0) 0); reserved = reserved }) (openHead p)
+    → _≡_ {A = Head} (record { number = 0; cookie = part 1 cookieSize; follows = not (eqb (getD p place 0) 0); reserved = reserved; position = 0 }) (openHead p)
 head-read p place reserved e h r =
     let v : reserved ≡ numberAt p (booleanAt p + 1) = r ∙ ap (λ (x : ℕ). numberAt p (x + 1)) h in
-    (λ i. record { number = 0; cookie = part 1 cookieSize; follows = not (eqb (getD p (h i) 0) 0); reserved = v i })
+    (λ i. record { number = 0; cookie = part 1 cookieSize; follows = not (eqb (getD p (h i) 0) 0); reserved = v i; position = 0 })
     ∙ head-found (kexinitCause p) p e
 
 -- ---- cursorOf a list
@@ -110,6 +133,39 @@ module _ (p : List ℕ) (n : ℕ) where
   -- what is known where opening answers 0
   pub open-zero : openList p n .head .number ≡ 0 → (1 ≤ n) × (n ≤ listCount) × (kexinitCause p ≡ 0)
   open-zero e = cause-zero (sym open-cause ∙ e)
+
+  -- 12 and 13 are the payload's
+  open-broken : 11 < openCause p n → kexinitCause p ≡ openCause p n
+  unfolding openCause causeUnless
+  open-broken a = by-test (within 1 listCount n) a
+    where
+      by-test : (t : Bool) → 11 < cond t (kexinitCause p) 4 → kexinitCause p ≡ cond t (kexinitCause p) 4
+      by-test true h = refl
+      by-test false h = let w : ⊥ = omega arith in absurd w
+
+  answered-so : (k at : ℕ) → within 1 listCount n ≡ true → eqb k 12 || eqb k 13 ≡ true → kexinitCause p ≡ k → breaksAt kexinitLayout p ≡ at
+      → (openList p n .head .number ≡ k) × (openList p n .head .position ≡ at)
+  unfolding openList
+  answered-so k at w b e f =
+      let g = open-good w ∙ e in
+      (head-number (openCause p n) p ∙ g, head-position (openCause p n) p ∙ ap (λ (m : ℕ). position m kexinitLayout p) g ∙ sym (position-some kexinitLayout p k b) ∙ f)
+
+  -- and it tells where a payload breaks: demand 2 for the position, where KEXINIT is read
+  pub open-told : Bytes p → PositionTold kexinitLayout p (openList p n .head .number) (openList p n .head .position)
+  unfolding openList
+  open-told y =
+      let k = openCause p n in
+      let e : headBy k p .position ≡ position k kexinitLayout p = head-position k p in
+      subst (λ (m : ℕ). PositionTold kexinitLayout p m (headBy k p .position)) (sym (head-number k p))
+      (subst (PositionTold kexinitLayout p k) (sym e)
+      (position-told kexinitLayout kexinit-ordered p y k (λ a b. open-broken a)))
+
+  -- and the other way round: for one of the ten lists a payload that breaks is answered so
+  pub open-cut : (at : ℕ) → Bytes p → within 1 listCount n ≡ true → length p ≤ kexinitMost → CutAt kexinitLayout p at → (openList p n .head .number ≡ 12) × (openList p n .head .position ≡ at)
+  open-cut at y w h c = let f = cut-found kexinitLayout kexinit-ordered p at y h c in answered-so 12 at w refl (f .0) (f .1)
+
+  pub open-over : (at : ℕ) → Bytes p → within 1 listCount n ≡ true → length p ≤ kexinitMost → LeftOverAt kexinitLayout p at → (openList p n .head .number ≡ 13) × (openList p n .head .position ≡ at)
+  open-over at y w h c = let f = left-over-found kexinitLayout kexinit-ordered p at y h c in answered-so 13 at w refl (f .0) (f .1)
 
   -- the cursor of a payload that was opened
   pub open-cursor : openCause p n ≡ 0 → openList p n .cursor ≡ cursorOf (listPart p n)

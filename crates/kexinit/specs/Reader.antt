@@ -12,6 +12,7 @@ use Rattle.wire.specs.Parts.{part, nothing, bytesAt}
 use Rattle.wire.specs.Strings.{numberAt, stringPart}
 use Rattle.wire.specs.declared.Part.{Part}
 use Rattle.messages.specs.Payload.{stringsEnd, messageCause}
+use Rattle.messages.specs.Position.{position}
 use Rattle.messages.specs.declared.Layout.{Layout}
 use Rattle.names.specs.Names.{namesOf}
 use Rattle.names.specs.Cursor.{exhausted, cursorOf}
@@ -20,7 +21,7 @@ use Rattle.kexinit.specs.declared.Opened.{Opened}
 
 -- byte 20, 16 cookie bytes, ten name-lists; a boolean and a 32-bit number behind them
 abbrev pub kexinitLayout : Layout
-kexinitLayout = record { most = kexinitMost; byte = 20; first = 1 + cookieSize; count = listCount; behind = 5 }
+kexinitLayout = record { most = kexinitMost; byte = 20; first = 1 + cookieSize; count = listCount; behind = 5; boolean = 1 }
 
 -- why a payload is refused
 abbrev pub kexinitCause : List ℕ → ℕ
@@ -44,14 +45,16 @@ headAt p = record {
   cookie = part 1 cookieSize;
   follows = not (eqb (getD p (booleanAt p) 0) 0);
   reserved = numberAt p (booleanAt p + 1);
+  position = 0;
 }
 
-abbrev pub headRefused : ℕ → Head
-headRefused k = record { number = k; cookie = nothing; follows = false; reserved = 0 }
+-- a refusal, with the position that its answer has
+abbrev pub headRefused : ℕ → ℕ → Head
+headRefused k at = record { number = k; cookie = nothing; follows = false; reserved = 0; position = at }
 
 -- a payload opened, by the first cause against it
 unfoldable pub headBy : ℕ → List ℕ → Head
-headBy k p = cond (eqb k 0) (headAt p) (headRefused k)
+headBy k p = cond (eqb k 0) (headAt p) (headRefused k (position k kexinitLayout p))
 
 abbrev pub openHead : List ℕ → Head
 openHead p = headBy (kexinitCause p) p

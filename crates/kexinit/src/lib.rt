@@ -19,14 +19,17 @@ const KEXINIT: Layout = Layout {
     first: FIRST_LIST,
     count: limits::LIST_COUNT,
     behind: 5,
+    boolean: 1,
 };
 
-// A payload judged whole: 0 with its cookie, boolean and reserved number, or 4 or 10 to 13 and none of them.
+// A payload judged whole: 0 with its cookie, boolean and reserved number, or 4 or 10 to 13 and none of them; of 12 and 13 also where the
+// payload breaks.
 pub struct Head {
     pub number: u8,
     pub cookie: Part,
     pub follows: bool,
     pub reserved: u32,
+    pub position: usize,
 }
 
 // A payload opened for one list, with a cursor at the list's beginning. A refusal's cursor yields only the end.
@@ -41,7 +44,7 @@ pub fn open_head(payload: &[u8]) -> Head
 {
     let j = messages::judge_message(payload, KEXINIT);
     if j.number != 0 {
-        return refused(j.number);
+        return refused(j.number, messages::position(j.number, payload, KEXINIT));
     }
     let place = j.place;
     Head {
@@ -52,18 +55,20 @@ pub fn open_head(payload: &[u8]) -> Head
         },
         follows: payload[place] != 0,
         reserved: wire::u32_at(payload, place + 1),
+        position: 0,
     }
 }
 
 // A refusal at opening.
-fn refused(number: u8) -> Head
-    ensures { λ r. ⌜ r ≡ headRefused number ⌝ }
+fn refused(number: u8, position: usize) -> Head
+    ensures { λ r. ⌜ r ≡ headRefused number position ⌝ }
 {
     Head {
         number,
         cookie: Part { start: 0, len: 0 },
         follows: false,
         reserved: 0,
+        position,
     }
 }
 
@@ -88,7 +93,7 @@ pub fn open_list(payload: &[u8], n: usize) -> Opened
     ensures { λ r. ⌜ r ≡ openList (now (payload .entry)) n ⌝ }
 {
     if !limits::in_range(1, limits::LIST_COUNT, n) {
-        let none = refused(4);
+        let none = refused(4, 0);
         return Opened {
             head: none,
             cursor: Cursor { at: 1, end: 0 },

@@ -1,7 +1,7 @@
 -- What one call on an exchange's bytes is, by the step's definitions. Assumes nothing.
 use Prim.Native.Nat.{ℕ}
 use mathlib.Core.Path.{_≡_, refl, sym, ap, _∙_}
-use mathlib.Core.List.{List, []}
+use mathlib.Core.List.{List, [], _∷_, _++_}
 use mathlib.Core.Bool.{Bool, true, false, cond}
 use lib.ListN.{length}
 use lib.Dec.{eqb}
@@ -10,8 +10,8 @@ use Rattle.exchange.specs.Numbers.{Kind, accepted, refused, fault, kind, byKind
 use Rattle.exchange.specs.Steps.{Call, number, taken, exchangeAfter, roomAfter}
 use Rattle.exchange.specs.Again.{againNumber, begunAgain, againAfter, againRoom}
 use Rattle.exchange.specs.declared.Exchange.{Exchange}
-use Rattle.stored.specs.Stored.{encoded}
-use Rattle.lent.specs.Lent.{Left, left, tells, toldSize, writes, outputsAfter, bytesAfter, stepLeft, untouched, lentCall, againLeft, lentAgain}
+use Rattle.stored.specs.Stored.{encoded, decoded, fits, byFit}
+use Rattle.lent.specs.Lent.{Left, left, tells, toldSize, writes, outputsAfter, bytesAfter, stepLeft, untouched, lentCall, positioned, againLeft, lentAgain}
 use Rattle.lent.proofs.Kept.{Storable, lent-is-step}
 
 -- a call that answered n, told, and left these bytes, on the bytes of x
@@ -57,6 +57,25 @@ as-step b x room q outs n told ex room′ outs′ e h l =
       room-is = ap (λ (y : Left). y .room) k;
       outputs-are = ap (λ (y : Left). y .outputs) k;
     }
+
+-- a call's number: 1 on bytes that no exchange has
+pub number-left : (b room : List ℕ) (q : Call) (outs : List (List ℕ)) → lentCall b room q outs .number ≡ byFit b (number (decoded b) room q) 1
+unfolding lentCall byFit stepLeft
+number-left b room q outs = by-fit (fits b)
+  where
+    by-fit : (t : Bool) → cond t (stepLeft b (decoded b) room q outs) (untouched b room (toldSize q) outs) .number ≡ cond t (number (decoded b) room q) 1
+    by-fit true = refl
+    by-fit false = refl
+
+-- ---- a position behind what is told
+
+module _ {n : ℕ} {told ex room : List ℕ} {outs : List (List ℕ)} where
+  pub position-behind : {l : Left} {x y : ℕ} → left n told ex room outs ≡ l → x ≡ y → left n (told ++ x ∷ []) ex room outs ≡ positioned y l
+  position-behind e h = λ i. positioned (h i) (e i)
+
+  -- and the rest without it
+  pub position-aside : (l : Left) (at : ℕ) → left n told ex room outs ≡ positioned at l → (left n (l .told) ex room outs ≡ l) × (told ≡ l .told ++ at ∷ [])
+  position-aside l at e = ((λ i. left (e i .number) (l .told) (e i .exchange) (e i .room) (e i .outputs)), ap (λ (y : Left). y .told) e)
 
 -- ---- to begin again
 

@@ -332,7 +332,7 @@ module _ (b : List ℕ) where
 -- ---- the start
 
 module _ (b : List ℕ) (role m : ℕ) (vc vs ic is room : List ℕ) where
-  pub start-taken : length b ≡ exchangeSize → (n : ℕ) (ex room′ : List ℕ) (x : Exchange) → record { number = n; count = 0; second = 0; exchange = x } ≡ started role m vc vs ic is (length room)
+  pub start-taken : length b ≡ exchangeSize → (n : ℕ) (ex room′ : List ℕ) (x : Exchange) → record { number = n; count = 0; second = 0; exchange = x; position = 0 } ≡ started role m vc vs ic is (length room)
       → ex ≡ encoded x → room′ ≡ startedRoom role m vc vs ic is room
       → left n [] ex room′ [] ≡ lentStart b role m vc vs ic is room
   unfolding lentStart startLeft

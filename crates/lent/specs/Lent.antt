@@ -95,6 +95,10 @@ untouched b room told outs = left 1 (zeros told) b room outs
 unfoldable pub lentCall : List ℕ → List ℕ → Call → List (List ℕ) → Left
 lentCall b room q outs = byFit b (stepLeft b (decoded b) room q outs) (untouched b room (toldSize q) outs)
 
+-- a reader's call tells a position besides, behind the places
+abbrev pub positioned : ℕ → Left → Left
+positioned at l = left (l .number) (l .told ++ at ∷ []) (l .exchange) (l .room) (l .outputs)
+
 -- ---- the start: in as many bytes as an exchange has, whatever they hold
 
 unfoldable pub startLeft : Step → List ℕ → Left

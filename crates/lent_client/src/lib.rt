@@ -5,9 +5,10 @@ ghost use mathlib.Core.List.{[], _∷_};
 ghost use Prim.Native.Nat.{_≤_};
 ghost use lib.ListN.{length};
 ghost use Rattle.buffers.specs.Bytes.{onto};
-ghost use Rattle.messages.specs.Messages.{initBytes};
+ghost use Rattle.messages.specs.Position.{position};
+ghost use Rattle.messages.specs.Messages.{initBytes, replyLayout};
 ghost use Rattle.exchange.specs.Steps.{ownC, reply, verdict as verdictStep};
-ghost use Rattle.lent.specs.Lent.{left, lentCall};
+ghost use Rattle.lent.specs.Lent.{left, lentCall, positioned};
 
 // INIT, written at the beginning of an output that it fits.
 fn put_init(out: &mut [u8], c: &[u8])
@@ -36,14 +37,23 @@ pub fn own_c(ex: &mut [u8], room: &mut [u8], c: &[u8], out: &mut [u8], count: &m
     0
 }
 
-// REPLY read: K_S goes in ahead of C, and S behind it. Told: the places of K_S, S and the signature.
-pub fn read_reply(ex: &mut [u8], room: &mut [u8], payload: &[u8], places: &mut [u64; 6]) -> u8
-    ensures { λ n. ⌜ left n (now (places .exit)) (now (ex .exit)) (now (room .exit)) [] ≡ lentCall (now (ex .entry)) (now (room .entry)) (reply (now (payload .entry))) [] ⌝ }
+// REPLY read: K_S goes in ahead of C, and S behind it. Told: the places of K_S, S and the signature, and where a payload that is answered
+// 12 or 13 breaks.
+pub fn read_reply(ex: &mut [u8], room: &mut [u8], payload: &[u8], told: &mut [u64; 7]) -> u8
+    ensures { λ n. ⌜ left n (now (told .exit)) (now (ex .exit)) (now (room .exit)) [] ≡ positioned (position n replyLayout (now (payload .entry))) (lentCall (now (ex .entry)) (now (room .entry)) (reply (now (payload .entry))) []) ⌝ }
 {
-    *places = [0; 6];
     let fed = judge_peer::reply_cause(stored::byte_in(ex, stored::METHOD_AT), payload);
     let n = due::step_number(3, ex, room.len(), fed);
     if n != 0 {
+        *told = [
+            0,
+            0,
+            0,
+            0,
+            0,
+            0,
+            messages::position(n, payload, messages::REPLY) as u64,
+        ];
         return lent::refuse(n, ex, room);
     }
     let k = wire::string_part(payload, 1, 0);
@@ -56,13 +66,14 @@ pub fn read_reply(ex: &mut [u8], room: &mut [u8], payload: &[u8], places: &mut [
         wire::part_of(payload, k),
         wire::part_of(payload, v),
     );
-    *places = [
+    *told = [
         k.start as u64,
         k.len as u64,
         v.start as u64,
         v.len as u64,
         g.start as u64,
         g.len as u64,
+        0,
     ];
     0
 }

@@ -6,23 +6,24 @@ ghost use mathlib.Core.List.{[], _∷_};
 ghost use Prim.Native.Nat.{_≤_};
 ghost use lib.ListN.{length};
 ghost use Rattle.buffers.specs.Bytes.{onto};
-ghost use Rattle.messages.specs.Messages.{replyBytes};
+ghost use Rattle.messages.specs.Position.{position};
+ghost use Rattle.messages.specs.Messages.{replyBytes, initLayout};
 ghost use Rattle.exchange.specs.Steps.{init, sign as signStep};
-ghost use Rattle.lent.specs.Lent.{left, lentCall};
+ghost use Rattle.lent.specs.Lent.{left, lentCall, positioned};
 
-// INIT read: C joins the room. Told: C's place.
-pub fn read_init(ex: &mut [u8], room: &mut [u8], payload: &[u8], place: &mut [u64; 2]) -> u8
-    ensures { λ n. ⌜ left n (now (place .exit)) (now (ex .exit)) (now (room .exit)) [] ≡ lentCall (now (ex .entry)) (now (room .entry)) (init (now (payload .entry))) [] ⌝ }
+// INIT read: C joins the room. Told: C's place, and where a payload that is answered 12 or 13 breaks.
+pub fn read_init(ex: &mut [u8], room: &mut [u8], payload: &[u8], told: &mut [u64; 3]) -> u8
+    ensures { λ n. ⌜ left n (now (told .exit)) (now (ex .exit)) (now (room .exit)) [] ≡ positioned (position n initLayout (now (payload .entry))) (lentCall (now (ex .entry)) (now (room .entry)) (init (now (payload .entry))) []) ⌝ }
 {
-    *place = [0; 2];
     let fed = judge_peer::init_cause(stored::byte_in(ex, stored::METHOD_AT), payload);
     let n = due::step_number(2, ex, room.len(), fed);
     if n != 0 {
+        *told = [0, 0, messages::position(n, payload, messages::INIT) as u64];
         return lent::refuse(n, ex, room);
     }
     let c = wire::string_part(payload, 1, 0);
     lent::with_c(ex, room, stored::INIT_READ, wire::part_of(payload, c));
-    *place = [c.start as u64, c.len as u64];
+    *told = [c.start as u64, c.len as u64, 0];
     0
 }
 

@@ -59,7 +59,7 @@ made-fresh s role m vc vs ic is o ex w e =
 
 -- an answer with no counts
 abbrev pub answer : ℕ → Exchange → Step
-answer n e = record { number = n; count = 0; second = 0; exchange = e }
+answer n e = record { number = n; count = 0; second = 0; exchange = e; position = 0 }
 
 module _ (role m : ℕ) (vc vs ic is room : List ℕ) (n : ℕ) (e : n ≡ startCause role m vc vs ic is (length room)) where
   -- refused: ended with the number, and the room stays

@@ -2,19 +2,37 @@
 use Prim.Native.Nat.{ℕ, _+_, _-_, _≤_, _<_}
 use mathlib.Core.Path.{_≡_, refl, sym, ap, _∙_}
 use mathlib.Core.List.{List}
-use mathlib.Core.Bool.{true, false}
+use mathlib.Core.Bool.{Bool, true, false}
 use native.Mathlib.Omega.{arith}
 use lib.ListN.{length, getD}
 use lib.Dec.{ltb, leb, eqb}
-use borrow.Author.Tests.{le-leb, lt-leb, leb-true, lt-ltb, le-ltb, ltb-false, eq-eqb, ne-eqb, eqb-true}
+use borrow.Author.Tests.{le-leb, lt-leb, leb-true, lt-ltb, le-ltb, ltb-true, ltb-false, eq-eqb, ne-eqb, eqb-true}
 use Rattle.limits.specs.Range.{within}
 use Rattle.limits.proofs.BoolLaws.{and-true, and-false}
 use Rattle.limits.proofs.RangeLaws.{within-is, within-low, within-high, within-least, within-most}
+use Rattle.wire.specs.Causes.{causeIf, causeUnless}
 use Rattle.wire.specs.Strings.{walk}
-use Rattle.wire.proofs.CauseLaws.{if-holds, if-fails, unless-holds, unless-fails, if-none, unless-none}
+use Rattle.wire.proofs.CauseLaws.{if-holds, if-fails, unless-holds, unless-fails, if-none}
 use Rattle.messages.specs.Payload.{stringsEnd, fieldsFit, messageCause, judged}
 use Rattle.messages.specs.declared.Layout.{Layout}
 use Rattle.messages.specs.declared.Judged.{Judged}
+
+-- a cause with another number was not met
+passed : (t : Bool) (n rest m : ℕ) → ¬ (n ≡ m) → causeUnless t n rest ≡ m → (t ≡ true) × (rest ≡ m)
+unfolding causeUnless
+passed true n rest m h e = (refl, e)
+passed false n rest m h e = absurd (h e)
+
+cut-only : (f t : Bool) → causeUnless f 12 (causeIf t 13 0) ≡ 12 → f ≡ false
+unfolding causeUnless causeIf
+cut-only false t e = refl
+cut-only true true e = let w : ⊥ = omega arith in absurd w
+cut-only true false e = let w : ⊥ = omega arith in absurd w
+
+more-only : (t : Bool) → causeIf t 13 0 ≡ 13 → t ≡ true
+unfolding causeIf
+more-only true e = refl
+more-only false e = let w : ⊥ = omega arith in absurd w
 
 module _ (l : Layout) (p : List ℕ) where
   -- ---- fieldsFit
@@ -34,7 +52,7 @@ module _ (l : Layout) (p : List ℕ) where
   unfolding fieldsFit
   fit-is h k = rw (eq-eqb (walk p (l .first) (l .count) .number) 0 h, le-leb (stringsEnd l p + l .behind) (length p) k)
 
-  fit-known : fieldsFit l p ≡ true → (walk p (l .first) (l .count) .number ≡ 0) × (stringsEnd l p + l .behind ≤ length p)
+  pub fit-known : fieldsFit l p ≡ true → (walk p (l .first) (l .count) .number ≡ 0) × (stringsEnd l p + l .behind ≤ length p)
   unfolding fieldsFit
   fit-known e =
       let a = and-true (eqb (walk p (l .first) (l .count) .number) 0) (leb (stringsEnd l p + l .behind) (length p)) e in
@@ -73,6 +91,16 @@ module _ (l : Layout) (p : List ℕ) where
             unless-holds _ 10 _ (within-is 1 (l .most) (length p) a b) ∙ unless-holds _ 11 _ (eq-eqb (getD p 0 0) (l .byte) c) ∙ unless-holds _ 12 _ f
             ∙ if-fails _ 13 0 (le-ltb (stringsEnd l p + l .behind) (length p) h)
 
+  -- what is known of a payload whose fields were looked at
+  looked : (m : ℕ) → ¬ (10 ≡ m) → ¬ (11 ≡ m) → messageCause l p ≡ m
+      → (1 ≤ length p) × (length p ≤ l .most) × (getD p 0 0 ≡ l .byte)
+      × (causeUnless (fieldsFit l p) 12 (causeIf (ltb (stringsEnd l p + l .behind) (length p)) 13 0) ≡ m)
+  unfolding messageCause
+  looked m h k e =
+      let a = passed (within 1 (l .most) (length p)) 10 _ m h e in
+      let b = passed (eqb (getD p 0 0) (l .byte)) 11 _ m k (a .1) in
+      (within-least 1 (l .most) (length p) (a .0), within-most 1 (l .most) (length p) (a .0), eqb-true (getD p 0 0) (l .byte) (b .0), b .1)
+
   -- what is known of a payload that is not refused
   pub record Good : Type 0 where
     pub some : 1 ≤ length p
@@ -82,22 +110,30 @@ module _ (l : Layout) (p : List ℕ) where
     pub ends : stringsEnd l p + l .behind ≡ length p
 
   pub cause-known : messageCause l p ≡ 0 → Good
-  unfolding messageCause
   cause-known e =
-      let a = unless-none (within 1 (l .most) (length p)) 10 _ (omega arith) e in
-      let b = unless-none (eqb (getD p 0 0) (l .byte)) 11 _ (omega arith) (a .1) in
-      let d = unless-none (fieldsFit l p) 12 _ (omega arith) (b .1) in
+      let a = looked 0 (omega arith) (omega arith) e in
+      let d = passed (fieldsFit l p) 12 _ 0 (omega arith) (a .3) in
       let g = if-none (ltb (stringsEnd l p + l .behind) (length p)) 13 0 (omega arith) (d .1) in
       let f = fit-known (d .0) in
       let lo : stringsEnd l p + l .behind ≤ length p = f .1 in
       let hi : length p ≤ stringsEnd l p + l .behind = ltb-false (stringsEnd l p + l .behind) (length p) (g .0) in
       record {
-        some = within-least 1 (l .most) (length p) (a .0);
-        most = within-most 1 (l .most) (length p) (a .0);
-        byte = eqb-true (getD p 0 0) (l .byte) (b .0);
+        some = a .0;
+        most = a .1;
+        byte = a .2;
         walked = f .0;
         ends = omega arith;
       }
+
+  -- of one that is cut, and of one with bytes left over
+  pub cut-known : messageCause l p ≡ 12 → (1 ≤ length p) × (getD p 0 0 ≡ l .byte) × (fieldsFit l p ≡ false)
+  cut-known e = let a = looked 12 (omega arith) (omega arith) e in (a .0, a .2, cut-only (fieldsFit l p) _ (a .3))
+
+  pub more-known : messageCause l p ≡ 13 → (1 ≤ length p) × (getD p 0 0 ≡ l .byte) × (fieldsFit l p ≡ true) × (stringsEnd l p + l .behind < length p)
+  more-known e =
+      let a = looked 13 (omega arith) (omega arith) e in
+      let f = passed (fieldsFit l p) 12 _ 13 (omega arith) (a .3) in
+      (a .0, a .2, f .0, ltb-true (stringsEnd l p + l .behind) (length p) (more-only _ (f .1)))
 
   -- ---- judged
 

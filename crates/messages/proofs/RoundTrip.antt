@@ -16,7 +16,7 @@ use Rattle.messages.proofs.PayloadLaws.{fit-is, cause-none, cause-known
 
 -- a byte and k strings behind it
 abbrev strings-behind : ℕ → ℕ → Layout
-strings-behind byte k = record { most = payloadMost; byte = byte; first = 1; count = k; behind = 0 }
+strings-behind byte k = record { most = payloadMost; byte = byte; first = 1; count = k; behind = 0; boolean = 0 }
 
 abbrev message : ℕ → List (List ℕ) → List ℕ
 message byte bs = (byte ∷ []) ++ strings bs

@@ -1,2 +1,3 @@
 pub mod Payload
+pub mod Position
 pub mod Messages

@@ -18,10 +18,10 @@ replyBytes ks s signature = (31 ∷ []) ++ strings (ks ∷ s ∷ signature ∷ [
 
 -- both as layouts: a byte, strings, nothing behind them
 abbrev pub initLayout : Layout
-initLayout = record { most = payloadMost; byte = 30; first = 1; count = 1; behind = 0 }
+initLayout = record { most = payloadMost; byte = 30; first = 1; count = 1; behind = 0; boolean = 0 }
 
 abbrev pub replyLayout : Layout
-replyLayout = record { most = payloadMost; byte = 31; first = 1; count = 3; behind = 0 }
+replyLayout = record { most = payloadMost; byte = 31; first = 1; count = 3; behind = 0; boolean = 0 }
 
 -- the place of field i of either, counted from 0, and its body
 abbrev pub fieldPart : List ℕ → ℕ → Part

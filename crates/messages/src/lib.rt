@@ -2,15 +2,17 @@
 // is byte 30 and the string C, REPLY is byte 31 and the strings K_S, S and signature.
 ghost use mathlib.Core.Path.{_≡_};
 ghost use Rattle.messages.specs.Payload.{judged};
+ghost use Rattle.messages.specs.Position.{breaksAt, position as positionIn};
 
 // How a payload is laid out: the most bytes it may have, its message number, where its strings begin, how many they are, and how many
-// bytes follow them.
+// bytes follow them, of which so many are a boolean.
 pub struct Layout {
     pub most: usize,
     pub byte: u8,
     pub first: usize,
     pub count: usize,
     pub behind: usize,
+    pub boolean: usize,
 }
 
 pub const INIT: Layout = Layout {
@@ -19,6 +21,7 @@ pub const INIT: Layout = Layout {
     first: 1,
     count: 1,
     behind: 0,
+    boolean: 0,
 };
 
 pub const REPLY: Layout = Layout {
@@ -27,6 +30,7 @@ pub const REPLY: Layout = Layout {
     first: 1,
     count: 3,
     behind: 0,
+    boolean: 0,
 };
 
 // A payload judged whole: 0 and where its strings end, or 10 to 13 and 0.
@@ -70,4 +74,35 @@ fn refused(number: u8) -> Judged
     ensures { λ r. ⌜ (r .number ≡ number) × (r .place ≡ 0) ⌝ }
 {
     Judged { number, place: 0 }
+}
+
+// Where a payload breaks: where its first field that passes the end begins, or the place behind its last.
+fn breaks_at(payload: &[u8], l: Layout) -> usize
+    ensures { λ r. ⌜ r ≡ breaksAt l (now (payload .entry)) ⌝ }
+{
+    if payload.len() < l.first {
+        return 1;
+    }
+    let run = wire::skip_strings(payload, l.first, l.count);
+    if run.number != 0 {
+        return run.place;
+    }
+    let place = run.place;
+    if payload.len() - place < l.boolean {
+        return place;
+    }
+    if payload.len() - place < l.behind {
+        return place + l.boolean;
+    }
+    place + l.behind
+}
+
+// The position in an answer: of 12 where the field that passed the end begins, of 13 the first byte left over, of every other number 0.
+pub fn position(number: u8, payload: &[u8], l: Layout) -> usize
+    ensures { λ r. ⌜ r ≡ positionIn number l (now (payload .entry)) ⌝ }
+{
+    if (number == 12) | (number == 13) {
+        return breaks_at(payload, l);
+    }
+    0
 }

@@ -101,10 +101,10 @@ module _ (k : Kexinit) (hc : length (k .cookie) ≡ cookieSize) (hl : length (k 
       ∙ number32-bytes32 (k .reserved) [] hr
 
   -- opened, it has its cookie, its boolean and its reserved number
-  head-complete : openHead (kexinit k) ≡ record { number = 0; cookie = part 1 cookieSize; follows = k .follows; reserved = k .reserved }
+  head-complete : openHead (kexinit k) ≡ record { number = 0; cookie = part 1 cookieSize; follows = k .follows; reserved = k .reserved; position = 0 }
   head-complete =
       sym (head-found (kexinitCause (kexinit k)) (kexinit k) kexinit-complete)
-      ∙ (λ i. record { number = 0; cookie = part 1 cookieSize; follows = boolean-back i; reserved = reserved-back i })
+      ∙ (λ i. record { number = 0; cookie = part 1 cookieSize; follows = boolean-back i; reserved = reserved-back i; position = 0 })
 
   cookie-complete : bytesAt (kexinit k) (openHead (kexinit k) .cookie) ≡ k .cookie
   cookie-complete =

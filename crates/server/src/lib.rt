@@ -16,9 +16,9 @@ pub fn read_init(e: Exchange, room: &mut [u8], payload: &[u8]) -> Step
     if !by_value::lay(&mut b, e) {
         return by_value::not_due(e);
     }
-    let mut place = [0u64; 2];
-    let n = lent_server::read_init(&mut b, room, payload, &mut place);
-    by_value::answer(n, 0, 0, &b)
+    let mut told = [0u64; 3];
+    let n = lent_server::read_init(&mut b, room, payload, &mut told);
+    by_value::answer(n, 0, 0, told[2], &b)
 }
 
 // Server, the signature: writes REPLY, with K_S and S as they stand in the room, and K.
@@ -33,5 +33,5 @@ pub fn sign(e: Exchange, room: &[u8], signature: &[u8], out: &mut [u8], k_out: &
     }
     let mut counts = [0u64; 2];
     let n = lent_server::sign(&mut b, room, signature, out, k_out, &mut counts);
-    by_value::answer(n, counts[0], counts[1], &b)
+    by_value::answer(n, counts[0], counts[1], 0, &b)
 }

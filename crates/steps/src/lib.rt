@@ -24,7 +24,7 @@ pub fn start(
 {
     let mut b = [0u8; limits::EXCHANGE_SIZE];
     let n = lent_steps::start(&mut b, role, method, vc, vs, ic, is, room);
-    by_value::answer(n, 0, 0, &b)
+    by_value::answer(n, 0, 0, 0, &b)
 }
 
 // Both roles, the secret: K joins the room and the record; a server's K_S and S join with it. H is handed out, zeros on a refusal.
@@ -50,7 +50,7 @@ pub fn take_secret(
     }
     let mut count = 0u64;
     let n = lent_steps::take_secret(&mut b, room, cl, x, kem, k_pq, ks, s, &mut count, &mut h);
-    let step = by_value::answer(n, count, 0, &b);
+    let step = by_value::answer(n, count, 0, 0, &b);
     SecretStep { step, h }
 }
 
@@ -63,5 +63,5 @@ pub fn again(e: Exchange, room: &mut [u8], method: u8, ic: &[u8], is: &[u8]) -> 
         return by_value::not_due(e);
     }
     let n = lent_again::again(&mut b, room, method, ic, is);
-    by_value::answer(n, 0, 0, &b)
+    by_value::answer(n, 0, 0, 0, &b)
 }

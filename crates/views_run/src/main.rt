@@ -67,8 +67,10 @@ fn list(payload: &[u8], i: usize) {
     let head = o.head;
     decimal(r.number as usize);
     text(b" ");
+    decimal(r.position);
+    text(b" ");
     let walk = walked(payload, r, o.cursor);
-    put_same(walk && r.number == head.number);
+    put_same(walk && r.number == head.number && r.position == head.position);
 }
 
 fn lists(payload: &[u8]) {
@@ -80,8 +82,13 @@ fn lists(payload: &[u8]) {
 }
 
 // The payloads, each behind four length bytes.
+fn fourth(s: &[u8]) {
+    lists(wire::string_body(s));
+}
+
 fn third(s: &[u8]) {
     lists(wire::string_body(s));
+    fourth(wire::string_rest(s));
 }
 
 fn second(s: &[u8]) {

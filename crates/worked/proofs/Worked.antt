@@ -12,9 +12,11 @@ use Rattle.wire.specs.Strings.{number32, string, strings, whole, walk, readStri
 use Rattle.wire.specs.declared.Walk.{Walk}
 use Rattle.wire.proofs.CauseLaws.{orElse-first}
 use Rattle.wire.proofs.StringLaws.{whole-no-length}
-use Rattle.wire.proofs.StringsLaws.{walk-strings}
+use Rattle.wire.proofs.StringsLaws.{length-strings, walk-strings}
+use Rattle.messages.specs.Position.{position}
 use Rattle.messages.specs.Messages.{replyLayout}
 use Rattle.messages.proofs.PayloadLaws.{fit-not-strings, cause-cut}
+use Rattle.messages.proofs.PositionLaws.{breaks-string, position-some}
 use Rattle.exchange.specs.Causes.{restOk, secretCause, replyCause}
 use Rattle.buffers.proofs.ByteLaws.{bytes-cons}
 use mathlib.Core.Bool.{Bool, true, false, cond}
@@ -37,8 +39,8 @@ lower-is o =
     shortest-value (o .lower) (0xff ∷ 0x7f ∷ []) (o .lower-bytes)
     (bytes-cons 0xff (0x7f ∷ []) (omega arith) (bytes-cons 0x7f [] (omega arith) none)) (o .lower-value)
 
--- where two strings were passed over and the third is not whole, three are cut
-third : (s : List ℕ) (at : ℕ) → walk s at 2 .number ≡ 0 → whole (drop (walk s at 2 .place) s) ≡ false → walk s at 3 .number ≡ 12
+-- where two strings were passed over and the third is not whole, three are cut there
+third : (s : List ℕ) (at : ℕ) → walk s at 2 .number ≡ 0 → whole (drop (walk s at 2 .place) s) ≡ false → walk s at 3 ≡ record { number = 12; place = walk s at 2 .place }
 third s at = by-test (whole (drop at s)) (whole (drop (at + 4 + number32 (drop at s)) s))
   where
     p : ℕ
@@ -49,7 +51,8 @@ third s at = by-test (whole (drop at s)) (whole (drop (at + 4 + number32 (drop a
 
     by-test : (t u : Bool) → cond {A = Walk} t (cond u (record { number = 0; place = q }) (record { number = 12; place = p })) (record { number = 12; place = at }) .number ≡ 0
         → whole (drop (cond {A = Walk} t (cond u (record { number = 0; place = q }) (record { number = 12; place = p })) (record { number = 12; place = at }) .place) s) ≡ false
-        → cond {A = Walk} t (cond u (cond (whole (drop q s)) (record { number = 0; place = q + 4 + number32 (drop q s) }) (record { number = 12; place = q })) (record { number = 12; place = p })) (record { number = 12; place = at }) .number ≡ 12
+        → cond {A = Walk} t (cond u (cond (whole (drop q s)) (record { number = 0; place = q + 4 + number32 (drop q s) }) (record { number = 12; place = q })) (record { number = 12; place = p })) (record { number = 12; place = at })
+        ≡ record { number = 12; place = cond {A = Walk} t (cond u (record { number = 0; place = q }) (record { number = 12; place = p })) (record { number = 12; place = at }) .place }
     by-test true true n w = rw w
     by-test true false n w = let v : ⊥ = omega arith in absurd v
     by-test false u n w = let v : ⊥ = omega arith in absurd v
@@ -80,16 +83,30 @@ module _ (o : Blanks) where
       one : 1 + length (strings (o .ks ∷ o .s ∷ [])) ≡ suc (length (strings (o .ks ∷ o .s ∷ [])))
       one = omega arith
 
+  three : walk reply 1 3 ≡ record { number = 12; place = walk reply 1 2 .place }
+  three = third reply 1 (ap (λ (w : Walk). w .number) two) cut-short
+
+  not-whole : ¬ (walk reply 1 3 .number ≡ 0)
+  not-whole z = let n = ap (λ (w : Walk). w .number) three in omega arith
+
   cut-reply : replyCause (o .method) reply ≡ 12
   unfolding reply replyCause
   cut-reply =
-      let n = third reply 1 (ap (λ (w : Walk). w .number) two) cut-short in
-      let e = cause-cut replyLayout reply (omega arith) (o .reply-length) refl (fit-not-strings replyLayout reply (λ z. omega (arith, n))) in
+      let e = cause-cut replyLayout reply (omega arith) (o .reply-length) refl (fit-not-strings replyLayout reply not-whole) in
       orElse-first _ _ (λ z. omega (arith, e)) ∙ e
+
+  cut-place : position 12 replyLayout reply ≡ 1 + (4 + length (o .ks)) + (4 + length (o .s))
+  unfolding reply
+  cut-place =
+      let n = ap (λ (w : Walk). w .place) three in
+      let m = ap (λ (w : Walk). w .place) two in
+      let e = position-some replyLayout reply 12 refl in
+      let b = breaks-string replyLayout reply (omega arith) not-whole in
+      omega (arith, length-strings (o .ks) (o .s ∷ []), length-strings (o .s) [])
 
 pub worked : (o : Blanks) → map (λ (e : Example). e .found) (examples o) ≡ map (λ (e : Example). e .stated) (examples o)
 unfolding shortest string whole readString readMpint rows rowOf secretCause restOk causeUnless causeIf reply
-worked o = rw (low-is o, lower-is o, needed (o .r), o .r-length, o .kPq-length, cut-reply o)
+worked o = rw (low-is o, lower-is o, needed (o .r), o .r-length, o .kPq-length, cut-reply o, cut-place o)
 
 -- there is such a blanks, so the table is not about nothing
 pub blanks : Blanks

@@ -1,6 +1,6 @@
 -- SPECIFICATION 14, worked examples: 14.1 to 14.12, a line of one table each (14.3 has two). An example that leaves bytes open holds for every
 -- blanks of them. Assumes nothing.
-use Prim.Native.Nat.{ℕ, _-_, _≤_}
+use Prim.Native.Nat.{ℕ, _+_, _-_, _≤_}
 use mathlib.Core.Path.{_≡_}
 use mathlib.Core.List.{List, [], _∷_, _++_}
 use lib.ListN.{length, take, drop}
@@ -8,6 +8,8 @@ use lib.IntN.{negsuc}
 use Rattle.limits.specs.Limits.{payloadMost, client}
 use Rattle.buffers.specs.Bytes.{Bytes, zeros}
 use Rattle.wire.specs.Strings.{string, strings}
+use Rattle.messages.specs.Position.{position}
+use Rattle.messages.specs.Messages.{replyLayout}
 use Rattle.mpint.specs.Mpint.{mpint, readMpint}
 use Rattle.mpint.specs.Value.{value}
 use Rattle.methods.specs.Ascii.{ascii}
@@ -15,11 +17,12 @@ use Rattle.exchange.specs.Causes.{replyCause, secretCause, kOf}
 use Rattle.exchange.specs.declared.Classical.the-variants.{Given}
 use Rattle.exchange.specs.declared.Kem.the-variants.{Absent, Done}
 
--- what an example is about: bytes; a body's length and how it begins; a refusal's number
+-- what an example is about: bytes; a body's length and how it begins; a refusal's number; and with a position
 pub data Result : Type 0 where
   bytes : List ℕ → Result
   body : ℕ → List ℕ → Result
   refused : ℕ → Result
+  broken : (number position : ℕ) → Result
 
 -- a line of the table: what the definitions say, and what the specification says
 pub record Example : Type 0 where
@@ -55,6 +58,10 @@ kIn method x = kOf method x []
 abbrev pub bodyIs : ℕ → List ℕ → Result
 bodyIs n k = body (length k - 4) (take n (drop 4 k))
 
+-- a REPLY as it is judged
+abbrev pub judgedReply : ℕ → List ℕ → Result
+judgedReply method p = broken (replyCause method p) (position (replyCause method p) replyLayout p)
+
 abbrev pub examples : Blanks → List Example
 examples o =
     -- 14.1: X of 32 bytes, all zero but a last 1
@@ -81,5 +88,5 @@ examples o =
     -- 14.11: the string "ab"
     ∷ record { found = bytes (string (ascii "ab")); stated = bytes (0 ∷ 0 ∷ 0 ∷ 2 ∷ 0x61 ∷ 0x62 ∷ []) }
     -- 14.12: a REPLY cut in its third length
-    ∷ record { found = refused (replyCause (o .method) ((31 ∷ []) ++ (strings (o .ks ∷ o .s ∷ []) ++ o .cut))); stated = refused 12 }
+    ∷ record { found = judgedReply (o .method) ((31 ∷ []) ++ (strings (o .ks ∷ o .s ∷ []) ++ o .cut)); stated = broken 12 (1 + (4 + length (o .ks)) + (4 + length (o .s))) }
     ∷ []

@@ -1,7 +1,7 @@
 -- `boundary::castulfrisa_open_list` meets its contract. Assumes nothing.
 use borrow.Author.Needs.{needs}
 use mathlib.Core.Path.{ap, _∙_}
-use mathlib.Core.List.{_∷_, _++_}
+use mathlib.Core.List.{[], _∷_, _++_}
 use Rattle.kexinit.specs.declared.Opened.{Opened}
 use Rattle.lent.specs.Lent.{placeOf}
 use Rattle.boundary.specs.Answers.{cursorNumbers, openedNumbers}
@@ -25,7 +25,7 @@ returns c =
     let r = c .before .before .before .before .before .before .open-list .result in
     let e = c .before .before .before .before .before .before .open-list .ensures in (
       ap (λ (x : Opened). x .head .number) e,
-      (λ i. placeOf (r .head .cookie) ++ c .before .before .before .told .ensures i ∷ r .head .reserved ∷ cursorNumbers (r .cursor)) ∙ ap openedNumbers e,
+      (λ i. placeOf (r .head .cookie) ++ c .before .before .before .told .ensures i ∷ r .head .reserved ∷ cursorNumbers (r .cursor) ++ r .head .position ∷ []) ∙ ap openedNumbers e,
     )
 
 pub castulfrisa-open-list-spec : {M : Type 1} → statement M

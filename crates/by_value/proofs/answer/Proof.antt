@@ -11,7 +11,7 @@ returns : tie.Need-returns
 unfolding back
 returns c =
     let a = c .before .before .args in
-    λ i. record { number = a .number; count = a .count; second = a .second; exchange = c .load .ensures i }
+    λ i. record { number = a .number; count = a .count; second = a .second; exchange = c .load .ensures i; position = a .position }
 
 pub answer-spec : {M : Type 1} → statement M
 answer-spec = tie.close (tie.spec load-requires returns)

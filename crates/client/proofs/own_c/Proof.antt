@@ -5,7 +5,7 @@ use mathlib.Core.Path.{refl, ap, _∙_}
 use mathlib.Core.List.{List, [], _∷_}
 use lib.ListN.{length, getD}
 use denote.Ref.{now}
-use Rattle.exchange.specs.Steps.{ownC, countOf, secondOf}
+use Rattle.exchange.specs.Steps.{ownC, countOf, secondOf, positionOf}
 use Rattle.exchange.proofs.StepLaws.{output-refused}
 use Rattle.messages.specs.Messages.{initBytes}
 use Rattle.lent.specs.Lent.{tells}
@@ -53,7 +53,7 @@ sizes : (c : tie.Start) → Sized (c .args .e)
 sizes c = (search needs, search needs, search needs)
 
 returns-2 : tie.Need-returns-2
-unfolding tells countOf secondOf
+unfolding tells countOf secondOf positionOf
 returns-2 c =
     let d = c .before .before .before .before .before .before .before in
     let t = d .before .before .before .before .before in
@@ -62,7 +62,7 @@ returns-2 c =
     let e = a .e in
     let r = now (a .room) in
     let q = ownC (now (a .c)) (length (now (a .out))) in
-    let v = value-step e r q _ _ (t .before .before .lay .ensures) (t .if1 .left) (sizes s) (now (a .out) ∷ []) _ _ _ _ _ (d .own-c .ensures) _ _ (λ w. (ap (λ (l : List ℕ). getD l 0 0) (w .told-is), second-none e r q refl)) in
+    let v = value-step e r q _ _ (t .before .before .lay .ensures) (t .if1 .left) (sizes s) (now (a .out) ∷ []) _ _ _ _ _ (d .own-c .ensures) _ _ _ (λ w. (ap (λ (l : List ℕ). getD l 0 0) (w .told-is), second-none e r q refl)) refl in
     (c .answer .ensures ∙ v .0, v .1, ap (λ (l : List (List ℕ)). getD l 0 []) (v .2))
 
 pub own-c-spec : {M : Type 1} → statement M

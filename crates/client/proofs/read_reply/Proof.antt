@@ -1,11 +1,9 @@
 -- `client::read_reply` meets its contract. Assumes nothing.
 use borrow.Author.Needs.{needs}
 use mathlib.Core.Path.{refl, _∙_}
-use mathlib.Core.List.{[]}
 use denote.Ref.{now}
-use Rattle.exchange.specs.Steps.{reply, countOf, secondOf}
-use Rattle.lent.specs.Lent.{tells}
-use Rattle.by_value.proofs.ValueLaws.{Sized, value-long, value-step, count-none, second-none}
+use Rattle.exchange.specs.Steps.{reply, countOf, secondOf, positionOf}
+use Rattle.by_value.proofs.ValueLaws.{Sized, value-long, reply-size, value-read}
 use Rattle.client.proofs.read_reply.Statement.{statement}
 use Rattle.client.proofs.read_reply.Tie as tie
 
@@ -33,6 +31,9 @@ slice-aggregate-read-reply c = search needs
 read-reply-requires : tie.Need-read-reply-requires
 read-reply-requires c κs = search needs
 
+array-read-answer : tie.Need-array-read-answer
+array-read-answer c = search needs
+
 slice-aggregate-answer : tie.Need-slice-aggregate-answer
 slice-aggregate-answer c = search needs
 
@@ -46,7 +47,7 @@ sizes : (c : tie.Start) → Sized (c .args .e)
 sizes c = (search needs, search needs, search needs)
 
 returns-2 : tie.Need-returns-2
-unfolding tells countOf secondOf
+unfolding countOf secondOf positionOf
 returns-2 c =
     let d = c .before .before .before .before .before in
     let t = d .before .before .before .before in
@@ -55,7 +56,7 @@ returns-2 c =
     let e = a .e in
     let r = now (a .room) in
     let q = reply (now (a .payload)) in
-    let v = value-step e r q _ _ (t .before .before .lay .ensures) (t .if1 .left) (sizes s) [] _ _ _ _ _ (d .read-reply .ensures) _ _ (λ w. (count-none e r q refl, second-none e r q refl)) in
+    let v = value-read e r q _ _ (t .before .before .lay .ensures) (t .if1 .left) (sizes s) _ _ _ _ _ _ (d .read-reply .ensures) (reply-size e r (now (a .payload))) refl refl refl in
     (c .answer .ensures ∙ v .0, v .1)
 
 pub read-reply-spec : {M : Type 1} → statement M
@@ -68,6 +69,7 @@ read-reply-spec =
     returns
     slice-aggregate-read-reply
     read-reply-requires
+    array-read-answer
     slice-aggregate-answer
     answer-requires
     same-length

@@ -5,7 +5,7 @@ use mathlib.Core.Path.{refl, ap, _∙_}
 use mathlib.Core.List.{List, [], _∷_}
 use lib.ListN.{length, getD}
 use denote.Ref.{now}
-use Rattle.exchange.specs.Steps.{verdict, countOf, secondOf}
+use Rattle.exchange.specs.Steps.{verdict, countOf, secondOf, positionOf}
 use Rattle.exchange.proofs.StepLaws.{output-refused}
 use Rattle.lent.specs.Lent.{tells}
 use Rattle.by_value.proofs.ValueLaws.{Sized, value-long, value-step, second-none}
@@ -52,7 +52,7 @@ sizes : (c : tie.Start) → Sized (c .args .e)
 sizes c = (search needs, search needs, search needs)
 
 returns-2 : tie.Need-returns-2
-unfolding tells countOf secondOf
+unfolding tells countOf secondOf positionOf
 returns-2 c =
     let d = c .before .before .before .before .before .before .before in
     let t = d .before .before .before .before .before in
@@ -61,7 +61,7 @@ returns-2 c =
     let e = a .e in
     let r = now (a .room) in
     let q = verdict (a .signature) (a .host-key) (length (now (a .k-out))) in
-    let v = value-step e r q _ _ (t .before .before .lay .ensures) (t .if1 .left) (sizes s) (now (a .k-out) ∷ []) _ _ _ _ _ (d .verdict .ensures) _ _ (λ w. (ap (λ (l : List ℕ). getD l 0 0) (w .told-is), second-none e r q refl)) in
+    let v = value-step e r q _ _ (t .before .before .lay .ensures) (t .if1 .left) (sizes s) (now (a .k-out) ∷ []) _ _ _ _ _ (d .verdict .ensures) _ _ _ (λ w. (ap (λ (l : List ℕ). getD l 0 0) (w .told-is), second-none e r q refl)) refl in
     (c .answer .ensures ∙ v .0, v .1, ap (λ (l : List (List ℕ)). getD l 0 []) (v .2))
 
 pub verdict-spec : {M : Type 1} → statement M

@@ -17,7 +17,7 @@ use contract.Monad.{Fun}
 use contract.Running.{givenOf, tables, tablesOf}
 use contract.Lifetimes.{Lfts, Shares}
 use types.Kit.{Given, Item, mean, ‵, raw, _⊛_, ⋆, _$_, _∵_, !, qed, by, move, drop, split, join, rewrite, fsplit, fjoin, feqL, suffices, frame, done}
-use types.Run.{look, init, forget, stop, hop, fld, from, load, addr, of-opd, and-then, no-more, assigns, land, returns, enter, alloc1, alloc0, params1, pass1, pass0, free1, free0}
+use types.Run.{look, init, forget, stop, hop, fld, from, load, addr, of-opd, and-then, no-more, assigns, land, returns, enter, alloc1, alloc0, params1, pass1, pass0, free1, free0, lit}
 use types.Part.{agg, whole, sub, look-in}
 use sound.WpLaws.{FmC, fmOf, WpFn-mono}
 use denote.RattleType.{owns}
@@ -38,7 +38,7 @@ use denote.Triple.Walked.{says, Stays, stay-dropped, gave-slice, walkOf, goes-dr
 use denote.Exit.{yes}
 use denote.Signature.{plain, shrSliceOf}
 use Rattle.exchange.specs.declared.Exchange.{Exchange}
-use Rattle.exchange.specs.Steps.{Call, secret, secretAnswered, roomAfter}
+use Rattle.exchange.specs.Steps.{Call, secret, secretAnswered, roomAfter, answered, positionOf}
 use Rattle.in_place.specs.declared.SecretCounts.{SecretCounts}
 use Rattle.in_place.specs.InPlace.{secretInPlace, left}
 use Rattle.exchange.proofs.Exchange as X
@@ -118,7 +118,7 @@ module _ {M : Type 1} (𝓤 : URA M) (H : Heap 𝓤) (A : Atoms 𝓤) (W : Given
   back l ν δ w = handed (toks ν) (λ r. R.the-row .own r (w ∷ [])) (last l ν δ) Said
 
   exits : (r : SecretCounts) (zs : Last) → Said r zs → Is T.the-row (secret-made r (zs .0)) (mach-t (secret-made r (zs .0)) ∷ []) → ent 𝓤 (⋆ 𝓤 H A (‵ (of-buffers zs) ∷ Toks ∷ [])) (Post (mach-t (secret-made r (zs .0))))
-  unfolding secretAnswered
+  unfolding secretAnswered answered positionOf
   exits r zs e is =
       qed W (‵ (of-buffers zs) ∷ Toks ∷ []) ∵ fsplit ! $ drop ! $ fsplit ! $ fsplit ! $ move ! (1 ∷ []) $ feqL ! (λ l.
       suffices ! _ (ends-at 𝓤 H A f.ended stayed (f.clauses 𝓤 H A mem run) W y (mach-t (secret-made r (zs .0))) (secret-made r (zs .0)) (tt, zs .1) (tt, (l, (tt, (tt, (tt, (tt, (tt, (tt, tt))))))))) $
@@ -151,7 +151,7 @@ module _ {M : Type 1} (𝓤 : URA M) (H : Heap 𝓤) (A : Atoms 𝓤) (W : Given
         fsplit ! $ move ! (2 ∷ []) $ split ! $ move ! (0 ∷ 4 ∷ 2 ∷ []) $ comes-back ! tt (zs .0) l9 0 (λ k.
         -- [_9; the tokens; what is said of the buffers; the other locals]
         assigns ! (of-opd ! (load ! (from ! (stop !)) (look ! 0 refl))) (from ! (stop !)) (init ! 5 refl (LL.lawful X.the-type X′.the-laws 𝓤 H A W .typed (zs .0) _ k .0)) $
-        assigns ! (agg ! (and-then ! (load ! (from ! (fld ! refl (stop !))) (look-in ! 13 (sub ! 0 refl (whole !)))) (and-then ! (load ! (from ! (fld ! refl (stop !))) (look-in ! 13 (sub ! 1 refl (whole !)))) (and-then ! (load ! (from ! (fld ! refl (stop !))) (look-in ! 13 (sub ! 2 refl (whole !)))) (and-then ! (load ! (from ! (stop !)) (look ! 5 refl)) (no-more !))))))
+        assigns ! (agg ! (and-then ! (load ! (from ! (fld ! refl (stop !))) (look-in ! 13 (sub ! 0 refl (whole !)))) (and-then ! (load ! (from ! (fld ! refl (stop !))) (look-in ! 13 (sub ! 1 refl (whole !)))) (and-then ! (load ! (from ! (fld ! refl (stop !))) (look-in ! 13 (sub ! 2 refl (whole !)))) (and-then ! (load ! (from ! (stop !)) (look ! 5 refl)) (and-then ! (lit ! tt) (no-more !)))))))
         (from ! (stop !)) (init ! 3 refl (LL.lawful S.the-type S′.the-laws 𝓤 H A W .typed (stepped r (zs .0)) _ (steps r w (zs .0) is k) .0)) $
         assigns ! (agg ! (and-then ! (load ! (from ! (stop !)) (look ! 3 refl)) (and-then ! (load ! (from ! (fld ! refl (stop !))) (look-in ! 13 (sub ! 3 refl (whole !)))) (no-more !))))
         (from ! (stop !)) (init ! 32 refl (LL.lawful T.the-type T′.the-laws 𝓤 H A W .typed (secret-made r (zs .0)) _ (makes-secret r w (zs .0) is k) .0)) $

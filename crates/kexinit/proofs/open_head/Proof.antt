@@ -1,10 +1,11 @@
 -- `kexinit::open_head` meets its contract. Assumes nothing.
 use borrow.Author.Needs.{needs}
+use Prim.Native.Nat.{ℕ}
 use mathlib.Core.Path.{ap, _∙_}
 use native.Mathlib.Omega.{arith}
 use denote.Ref.{now}
 use Rattle.messages.proofs.PayloadLaws.{cause-known, judged-cause, judged-zero}
-use Rattle.kexinit.specs.Reader.{kexinitLayout, headBy}
+use Rattle.kexinit.specs.Reader.{kexinitLayout, headRefused, headBy}
 use Rattle.kexinit.proofs.ReaderLaws.{head-refused, head-read}
 use Rattle.kexinit.proofs.open_head.Statement.{statement}
 use Rattle.kexinit.proofs.open_head.Tie as tie
@@ -12,20 +13,23 @@ use Rattle.kexinit.proofs.open_head.Tie as tie
 judge-message-requires : tie.Need-judge-message-requires
 judge-message-requires c κs = search needs
 
+position-requires : tie.Need-position-requires
+position-requires c κs = search needs
+
 refused-requires : tie.Need-refused-requires
 refused-requires c κs = search needs
 
 returns : tie.Need-returns
 returns c =
-    let t = c .before in
+    let t = c .before .before in
     let j = t .before .before in
     let z = j .before .before in
     let p = now (z .args .payload) in
     let e = judged-cause kexinitLayout p _ (j .judge-message .ensures) in
-    c .refused .ensures ∙ head-refused _ p (t .if1 .taken) ∙ ap (λ (k : _). headBy k p) e
+    c .refused .ensures ∙ ap (headRefused _) (c .before .position .ensures) ∙ head-refused _ p (t .if1 .taken) ∙ ap (λ (k : ℕ). headBy k p) e
 
-shared-slice-read-t8 : tie.Need-shared-slice-read-t8
-shared-slice-read-t8 c =
+shared-slice-read-t10 : tie.Need-shared-slice-read-t10
+shared-slice-read-t10 c =
     let e1 = c .before in
     let j = e1 .before .before in
     let z = j .before .before in
@@ -61,9 +65,10 @@ open-head-spec =
     tie.close
     (tie.spec
     judge-message-requires
+    position-requires
     refused-requires
     returns
-    shared-slice-read-t8
+    shared-slice-read-t10
     add-u32-at
     u32-at-requires
     returns-2)

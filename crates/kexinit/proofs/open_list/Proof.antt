@@ -1,6 +1,6 @@
 -- `kexinit::open_list` meets its contract. Assumes nothing.
 use borrow.Author.Needs.{needs}
-use mathlib.Core.Path.{_≡_, sym, ap, _∙_}
+use mathlib.Core.Path.{_≡_, refl, sym, ap, _∙_}
 use native.Mathlib.Omega.{arith}
 use denote.Ref.{now}
 use Rattle.limits.specs.Limits.{listCount}
@@ -8,7 +8,7 @@ use Rattle.limits.proofs.BoolLaws.{holds, fails}
 use Rattle.limits.proofs.RangeLaws.{within-least}
 use Rattle.kexinit.specs.Reader.{kexinitCause}
 use Rattle.kexinit.specs.declared.Head.{Head}
-use Rattle.kexinit.proofs.ReaderLaws.{head-refused, head-number, open-other, open-good, open-refused, open-found}
+use Rattle.kexinit.proofs.ReaderLaws.{head-other, head-number, open-other, open-good, open-refused, open-found}
 use Rattle.kexinit.proofs.open_list.Statement.{statement}
 use Rattle.kexinit.proofs.open_list.Tie as tie
 
@@ -24,7 +24,7 @@ returns c =
     let r = t .before in
     let z = r .before .before in
     let p = now (z .args .payload) in
-    open-refused p (z .args .n) _ 4 (open-other p (z .args .n) (fails (r .in-range .ensures) (t .if1 .taken))) (λ e. omega arith) (c .refused .ensures ∙ head-refused 4 p (λ e. omega arith))
+    open-refused p (z .args .n) _ 4 (open-other p (z .args .n) (fails (r .in-range .ensures) (t .if1 .taken))) (λ e. omega arith) (c .refused .ensures ∙ head-other 4 p (λ e. omega arith) refl)
 
 open-head-requires : tie.Need-open-head-requires
 open-head-requires c κs = search needs

@@ -1,11 +1,11 @@
 -- `server::sign` meets its contract. Assumes nothing.
 use borrow.Author.Needs.{needs}
 use Prim.Native.Nat.{ℕ}
-use mathlib.Core.Path.{ap, _∙_}
+use mathlib.Core.Path.{refl, ap, _∙_}
 use mathlib.Core.List.{List, [], _∷_}
 use lib.ListN.{length, getD}
 use denote.Ref.{now}
-use Rattle.exchange.specs.Steps.{sign, replyOf, countOf, secondOf}
+use Rattle.exchange.specs.Steps.{sign, replyOf, countOf, secondOf, positionOf}
 use Rattle.exchange.proofs.StepLaws.{output-refused}
 use Rattle.lent.specs.Lent.{tells}
 use Rattle.by_value.proofs.ValueLaws.{Sized, value-long, value-step}
@@ -58,7 +58,7 @@ sizes : (c : tie.Start) → Sized (c .args .e)
 sizes c = (search needs, search needs, search needs)
 
 returns-2 : tie.Need-returns-2
-unfolding tells countOf secondOf
+unfolding tells countOf secondOf positionOf
 returns-2 c =
     let d = c .before .before .before .before .before .before .before in
     let t = d .before .before .before .before .before in
@@ -67,7 +67,7 @@ returns-2 c =
     let e = a .e in
     let r = now (a .room) in
     let q = sign (now (a .signature)) (length (now (a .out))) (length (now (a .k-out))) in
-    let v = value-step e r q _ _ (t .before .before .lay .ensures) (t .if1 .left) (sizes s) (now (a .out) ∷ now (a .k-out) ∷ []) _ _ _ _ _ (d .sign .ensures) _ _ (λ w. (ap (λ (l : List ℕ). getD l 0 0) (w .told-is), ap (λ (l : List ℕ). getD l 1 0) (w .told-is))) in
+    let v = value-step e r q _ _ (t .before .before .lay .ensures) (t .if1 .left) (sizes s) (now (a .out) ∷ now (a .k-out) ∷ []) _ _ _ _ _ (d .sign .ensures) _ _ _ (λ w. (ap (λ (l : List ℕ). getD l 0 0) (w .told-is), ap (λ (l : List ℕ). getD l 1 0) (w .told-is))) refl in
     (c .answer .ensures ∙ v .0, ap (λ (l : List (List ℕ)). getD l 0 []) (v .2), ap (λ (l : List (List ℕ)). getD l 1 []) (v .2))
 
 pub sign-spec : {M : Type 1} → statement M

@@ -5,7 +5,7 @@ use mathlib.Core.Path.{refl, ap, _∙_}
 use mathlib.Core.List.{List, []}
 use lib.ListN.{getD, drop}
 use denote.Ref.{now}
-use Rattle.exchange.specs.Steps.{secret, secretAnswered, countOf, secondOf}
+use Rattle.exchange.specs.Steps.{secret, secretAnswered, countOf, secondOf, positionOf}
 use Rattle.exchange.proofs.StepLaws.{handed-refused}
 use Rattle.lent.specs.Lent.{tells}
 use Rattle.by_value.proofs.ValueLaws.{Sized, value-long, value-step, value-told, second-none}
@@ -52,7 +52,7 @@ sizes : (c : tie.Start) → Sized (c .args .e)
 sizes c = (search needs, search needs, search needs)
 
 returns-2 : tie.Need-returns-2
-unfolding tells countOf secondOf secretAnswered
+unfolding tells countOf secondOf positionOf secretAnswered
 returns-2 c =
     let d = c .before .before .before .before .before in
     let t = d .before .before .before .before .before in
@@ -62,7 +62,7 @@ returns-2 c =
     let r = now (a .room) in
     let q = secret (a .cl) (now (a .x)) (a .kem) (now (a .k-pq)) (now (a .ks)) (now (a .s)) in
     let l = t .before .before .lay .ensures in
-    let v = value-step e r q _ _ l (t .if1 .left) (sizes s) [] _ _ _ _ _ (d .take-secret .ensures) _ _ (λ w. (ap (λ (n : List ℕ). getD n 0 0) (w .told-is), second-none e r q refl)) in
+    let v = value-step e r q _ _ l (t .if1 .left) (sizes s) [] _ _ _ _ _ (d .take-secret .ensures) _ _ _ (λ w. (ap (λ (n : List ℕ). getD n 0 0) (w .told-is), second-none e r q refl)) refl in
     let w = c .answer .ensures ∙ v .0 in
     let h = ap (λ (n : List ℕ). drop 1 n) (value-told e r q _ _ l (t .if1 .left) (sizes s) [] _ _ _ _ _ (d .take-secret .ensures)) in
     ((λ i. record { step = w i; h = h i }), v .1)
