@@ -1,9 +1,9 @@
 //! A client and a server complete an exchange with each other in every method, derive their keys, and rekey: the same exchange begins again
 //! and is completed once more. The primitives are stand-ins with fixed outputs: both sides get the same X and K_PQ, and the signature is 64
-//! fixed bytes. A real host puts its own in their place.
+//! fixed bytes. A real host puts its own in their place. At the end messages that arrive cut, and what can be said of them.
 use castulfrisa::exchange::{Complete, Started};
-use castulfrisa::{choose, same_version, wipe_stack, write_kexinit, Classical, Client, Greeting, Kem, Method, Own, Refusal, Server, K};
-use castulfrisa::{Key, Letter, EXCHANGE, INIT, KEXINIT_MOST, K_PQ_SIZE, REPLY, ROOM};
+use castulfrisa::{choose, same_version, wipe_stack, write_kexinit, Cause, Classical, Client, Greeting, Kem, Method, Own, Refusal, Server, K};
+use castulfrisa::{open_list, Key, Letter, List, EXCHANGE, INIT, KEXINIT_MOST, K_PQ_SIZE, REPLY, ROOM};
 
 /// What aes256-ctr and hmac-sha2-256 want of each letter, A to F.
 const LENGTHS: [usize; 6] = [16, 16, 32, 32, 32, 32];
@@ -21,7 +21,7 @@ fn proposal(kex: &[u8], cookie: &[u8; 16]) -> Result<Vec<u8>, Refusal> {
 /// From a beginning, the connection's first or a later one, to the keys.
 fn complete<'r>(
     method: Method, client: Client<'r, Started>, server: Server<'r, Started>,
-) -> Result<(Client<'r, Complete>, Server<'r, Complete>), Refusal> {
+) -> Result<(Client<'r, Complete>, Server<'r, Complete>), Cause> {
     let sizes = method.sizes();
     // the primitives' outputs: a NIST point begins with 4
     let (mut c, mut s) = (vec![4; sizes.c_len], vec![4; sizes.s_len]);
@@ -61,7 +61,7 @@ fn complete<'r>(
     Ok((client, server))
 }
 
-fn connection(name: &[u8]) -> Result<[usize; 2], Refusal> {
+fn connection(name: &[u8]) -> Result<[usize; 2], Cause> {
     let (ic, is) = (proposal(name, b"client's  cookie")?, proposal(name, b"server's  cookie")?);
     let method = choose(&ic, &is)?.method;
     let greeting = Greeting { vc: b"SSH-2.0-client", vs: b"SSH-2.0-server", ic: &ic, is: &is };
@@ -92,6 +92,18 @@ fn connection(name: &[u8]) -> Result<[usize; 2], Refusal> {
     Ok([first, second])
 }
 
+/// What is told of an INIT and of a KEXINIT that arrive without their end. A cut INIT ends the exchange.
+fn cut() -> Result<[String; 2], Cause> {
+    let payload = proposal(b"curve25519-sha256", b"client's  cookie")?;
+    let greeting = Greeting { vc: b"SSH-2.0-client", vs: b"SSH-2.0-server", ic: &payload, is: &payload };
+    let (mut exchange, mut room) = ([0; EXCHANGE], [0; ROOM]);
+    let server = Server::start(Method::Curve25519Sha256, greeting, &mut exchange, &mut room)?;
+    let init = server.read_init(&[30, 0, 0, 0, 32, 0xc1, 0xc1]).map(|_| ()).expect_err("a cut INIT");
+    assert_eq!((init.refusal(), init.place().map(|place| place.position)), (Refusal::PastEnd, Some(1)));
+    let kexinit = open_list(&payload[..payload.len() - 2], List::Kex).expect_err("a cut KEXINIT");
+    Ok([init.to_string(), kexinit.to_string()])
+}
+
 fn main() {
     if !same_version() {
         eprintln!("the library is of another version than this crate");
@@ -104,10 +116,17 @@ fn main() {
                 "method {}, {}: complete, {} bytes to hash, six keys; begun again with ecdh-sha2-nistp521: complete, {} bytes to hash, six keys",
                 method.number(), name, first, second
             ),
-            Err(refusal) => {
-                eprintln!("method {}, {}: {}", method.number(), name, refusal);
+            Err(cause) => {
+                eprintln!("method {}, {}: {}", method.number(), name, cause);
                 std::process::exit(1);
             }
+        }
+    }
+    match cut() {
+        Ok(told) => println!("messages that arrive cut: {}", told.join("; ")),
+        Err(cause) => {
+            eprintln!("messages that arrive cut: {}", cause);
+            std::process::exit(1);
         }
     }
 }

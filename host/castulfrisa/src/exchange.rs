@@ -43,6 +43,24 @@
 //! # Ok::<(), Refusal>(())
 //! ```
 //!
+//! Of an INIT or a REPLY that is cut, or goes on behind its last field, [`Stopped::place`] tells where:
+//!
+//! ```
+//! use castulfrisa::{Field, Greeting, Method, Refusal, Server, Stopped, EXCHANGE, ROOM};
+//! let greeting = Greeting { vc: b"c", vs: b"s", ic: &[20], is: &[20] };
+//! let (mut exchange, mut room) = ([0; EXCHANGE], [0; ROOM]);
+//! let server = Server::start(Method::Curve25519Sha256, greeting, &mut exchange, &mut room)?;
+//! match server.read_init(&[30, 0, 0, 0, 32, 1, 2, 3]) {
+//!     Err(Stopped::Failed(cause)) => {
+//!         assert_eq!(cause, Refusal::PastEnd);
+//!         assert_eq!(cause.place.map(|place| (place.position, place.field)), Some((1, Some(Field::C))));
+//!         assert_eq!(cause.to_string(), "INIT cut at byte 1, in C (12)");
+//!     }
+//!     _ => panic!("a cut INIT was taken"),
+//! }
+//! # Ok::<(), Refusal>(())
+//! ```
+//!
 //! What follows does not compile. A server's step on a client:
 //!
 //! ```compile_fail,E0599
@@ -129,8 +147,8 @@
 //! let stage = exchange[1];
 //! ```
 use crate::raw::{self, Progress};
-use crate::refusal::{judged, Refusal};
-use crate::{bytes, same_version, Key, Letter, Method, EXCHANGE, H_SIZE};
+use crate::refusal::{judged, read, Cause, Refusal};
+use crate::{bytes, same_version, Key, Letter, Method, Place, EXCHANGE, H_SIZE};
 use core::fmt;
 use core::marker::PhantomData;
 
@@ -391,20 +409,37 @@ impl<R, S> fmt::Debug for Exchange<'_, R, S> {
 pub enum Stopped<E> {
     /// Nothing changed, and the exchange comes back: the call may be made again, with more lent or with other inputs.
     Refused { refusal: Refusal, exchange: E },
-    /// The peer's fault. The exchange was wiped, and ended for good.
-    Failed(Refusal),
+    /// The peer's fault, with the place where its INIT or REPLY breaks. The exchange was wiped, and ended for good.
+    Failed(Cause),
 }
 
 impl<E> Stopped<E> {
     pub fn refusal(&self) -> Refusal {
+        self.cause().refusal
+    }
+
+    /// Where an INIT or a REPLY breaks.
+    pub fn place(&self) -> Option<Place> {
+        self.cause().place
+    }
+
+    fn cause(&self) -> Cause {
         match self {
-            Stopped::Refused { refusal, .. } | Stopped::Failed(refusal) => *refusal,
+            Stopped::Refused { refusal, .. } => (*refusal).into(),
+            Stopped::Failed(cause) => *cause,
         }
     }
 }
 
-impl<E> From<Stopped<E>> for Refusal {
+impl<E> From<Stopped<E>> for Cause {
     /// Gives the exchange up where there still is one.
+    fn from(stopped: Stopped<E>) -> Cause {
+        stopped.cause()
+    }
+}
+
+impl<E> From<Stopped<E>> for Refusal {
+    /// Gives the exchange up where there still is one, and the place.
     fn from(stopped: Stopped<E>) -> Refusal {
         stopped.refusal()
     }
@@ -414,14 +449,14 @@ impl<E> fmt::Debug for Stopped<E> {
     fn fmt(&self, f: &mut fmt::Formatter<'_>) -> fmt::Result {
         match self {
             Stopped::Refused { refusal, .. } => f.debug_struct("Refused").field("refusal", refusal).finish_non_exhaustive(),
-            Stopped::Failed(refusal) => f.debug_tuple("Failed").field(refusal).finish(),
+            Stopped::Failed(cause) => f.debug_tuple("Failed").field(cause).finish(),
         }
     }
 }
 
 impl<E> fmt::Display for Stopped<E> {
     fn fmt(&self, f: &mut fmt::Formatter<'_>) -> fmt::Result {
-        self.refusal().fmt(f)
+        self.cause().fmt(f)
     }
 }
 
@@ -437,10 +472,14 @@ impl<'r, R, S> Exchange<'r, R, S> {
 
     /// A step's number: the exchange at its next stage, or what stopped it.
     fn after<T>(self, number: u64, stage: T) -> Result<Exchange<'r, R, T>, Stopped<Self>> {
-        match judged(number) {
+        self.judged(judged(number).map_err(Cause::from), stage)
+    }
+
+    fn judged<T>(self, told: Result<(), Cause>, stage: T) -> Result<Exchange<'r, R, T>, Stopped<Self>> {
+        match told {
             Ok(()) => Ok(Exchange { lent: self.lent, stage, role: PhantomData }),
-            Err(refusal) if refusal.ends_exchange() => Err(Stopped::Failed(refusal)),
-            Err(refusal) => Err(Stopped::Refused { refusal, exchange: self }),
+            Err(cause) if cause.refusal.ends_exchange() => Err(Stopped::Failed(cause)),
+            Err(Cause { refusal, .. }) => Err(Stopped::Refused { refusal, exchange: self }),
         }
     }
 
@@ -512,8 +551,8 @@ impl<'r> Client<'r, CSent> {
         let Lent { exchange, room } = &mut self.lent;
         let mut parts = raw::Reply::default();
         let number = raw::read_reply(*exchange, room, payload, &mut parts);
-        let next = self.after(number, ReplyRead(()))?;
-        let raw::Reply { host_key, s, signature } = parts;
+        let raw::Reply { host_key, s, signature, position } = parts;
+        let next = self.judged(read(number, payload, position), ReplyRead(()))?;
         Ok((next, Reply { host_key: bytes(payload, host_key), s: bytes(payload, s), signature: bytes(payload, signature) }))
     }
 }
@@ -542,10 +581,10 @@ impl<'r> Server<'r, Started> {
     /// INIT read: C.
     pub fn read_init(mut self, payload: &[u8]) -> Result<(Server<'r, InitRead>, &[u8]), Stopped<Self>> {
         let Lent { exchange, room } = &mut self.lent;
-        let mut c = raw::Part::default();
-        let number = raw::read_init(*exchange, room, payload, &mut c);
-        let next = self.after(number, InitRead(()))?;
-        Ok((next, bytes(payload, c)))
+        let mut told = raw::Init::default();
+        let number = raw::read_init(*exchange, room, payload, &mut told);
+        let next = self.judged(read(number, payload, told.position), InitRead(()))?;
+        Ok((next, bytes(payload, told.c)))
     }
 }
 

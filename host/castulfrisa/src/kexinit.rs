@@ -1,6 +1,6 @@
 //! KEXINIT (RFC 4253, section 7.1), read and written, and the choice from two of them.
 use crate::raw::{self, Cursor};
-use crate::refusal::{judged, Refusal};
+use crate::refusal::{judged, read, Cause, Refusal};
 use crate::{bytes, Method, COOKIE, KEXINIT_MOST, LISTS};
 use core::fmt;
 
@@ -129,10 +129,11 @@ impl<'a> Iterator for Names<'a> {
 
 impl core::iter::FusedIterator for Names<'_> {}
 
-/// Opens a KEXINIT for one of its lists. Names are judged as they are yielded.
-pub fn open_list(payload: &[u8], list: List) -> Result<Kexinit<'_>, Refusal> {
+/// Opens a KEXINIT for one of its lists. Names are judged as they are yielded. Where it breaks, the cause has the place.
+pub fn open_list(payload: &[u8], list: List) -> Result<Kexinit<'_>, Cause> {
     let mut o = raw::Opened::default();
-    judged(raw::open_list(payload, list.number(), &mut o))?;
+    let number = raw::open_list(payload, list.number(), &mut o);
+    read(number, payload, o.position)?;
     let names = Names { payload, cursor: o.cursor, over: false };
     Ok(Kexinit { cookie: bytes(payload, o.cookie), follows: o.follows == 1, reserved: o.reserved as u32, names })
 }

@@ -2,9 +2,9 @@
 //! server, with the keys that come of it. The core computes no curve, KEM or signature: the host does, and hands in what came out. It
 //! hashes with its own SHA-2.
 //!
-//! A refusal is an `Err` with the one cause that the core found first. An exchange is a type for each role and stage: a step
-//! consumes it and returns the next, so that a step of the other role, one out of order and a second use do not compile. Nothing
-//! here allocates.
+//! A refusal is an `Err` with the one cause that the core found first and, where an INIT, a REPLY or a KEXINIT is cut or goes on behind its
+//! last field, with the place. An exchange is a type for each role and stage: a step consumes it and returns the next, so that a step of
+//! the other role, one out of order and a second use do not compile. Nothing here allocates.
 //!
 //! ```
 //! use castulfrisa::{choose, write_kexinit, Classical, Client, Greeting, Kem, Refusal, Server, K, EXCHANGE, INIT, REPLY, ROOM};
@@ -63,6 +63,7 @@ mod hash;
 mod kexinit;
 mod keys;
 mod method;
+mod place;
 pub mod raw;
 mod refusal;
 mod wire;
@@ -72,11 +73,12 @@ pub use hash::{Hash, Kind};
 pub use kexinit::{choose, open_list, write_kexinit, Choice, Kexinit, List, Names, NotWritten};
 pub use keys::{Key, Letter};
 pub use method::{Method, Name, Sizes};
-pub use refusal::Refusal;
+pub use place::{Field, Message, Place};
+pub use refusal::{Cause, Refusal};
 pub use wire::{read_mpint, read_string, write_mpint, write_string, Mpint};
 
 /// The version of the header that this crate was written to.
-pub const VERSION: u64 = 5;
+pub const VERSION: u64 = 6;
 
 /// The bytes of an exchange.
 pub const EXCHANGE: usize = 228;

@@ -43,6 +43,7 @@ pub struct Cursor {
     pub end: u64,
 }
 
+/// `position` is where a payload that is answered 12 or 13 breaks, here and in `Init` and `Reply`; with every other number 0.
 #[repr(C)]
 #[derive(Clone, Copy, Debug, Default, PartialEq, Eq)]
 pub struct Opened {
@@ -50,6 +51,7 @@ pub struct Opened {
     pub follows: u64,
     pub reserved: u64,
     pub cursor: Cursor,
+    pub position: u64,
 }
 
 /// The bytes of a KEXINIT that was written, and the first bad list, 1 to 10, or 0.
@@ -71,10 +73,18 @@ pub struct Choice {
 
 #[repr(C)]
 #[derive(Clone, Copy, Debug, Default, PartialEq, Eq)]
+pub struct Init {
+    pub c: Part,
+    pub position: u64,
+}
+
+#[repr(C)]
+#[derive(Clone, Copy, Debug, Default, PartialEq, Eq)]
 pub struct Reply {
     pub host_key: Part,
     pub s: Part,
     pub signature: Part,
+    pub position: u64,
 }
 
 /// The bytes of REPLY and of K.
@@ -143,7 +153,7 @@ mod c {
         ) -> u64;
         pub fn castulfrisa_read_init(
             exchange: *mut u8, exchange_len: u64, room: *mut u8, room_len: u64,
-            payload: *const u8, payload_len: u64, c: *mut Part,
+            payload: *const u8, payload_len: u64, told: *mut Init,
         ) -> u64;
         pub fn castulfrisa_read_reply(
             exchange: *mut u8, exchange_len: u64, room: *mut u8, room_len: u64,
@@ -304,11 +314,11 @@ pub fn own_c(exchange: &mut [u8], room: &mut [u8], value: &[u8], out: &mut [u8],
 }
 
 /// Server: INIT read.
-pub fn read_init(exchange: &mut [u8], room: &mut [u8], payload: &[u8], value: &mut Part) -> u64 {
+pub fn read_init(exchange: &mut [u8], room: &mut [u8], payload: &[u8], told: &mut Init) -> u64 {
     unsafe {
         c::castulfrisa_read_init(
             exchange.as_mut_ptr(), exchange.len() as u64, room.as_mut_ptr(), room.len() as u64,
-            payload.as_ptr(), payload.len() as u64, value,
+            payload.as_ptr(), payload.len() as u64, told,
         )
     }
 }

@@ -1,4 +1,5 @@
 //! Why a call was refused.
+use crate::Place;
 use core::fmt;
 
 /// Why a call was refused; `number` is the core's.
@@ -103,10 +104,63 @@ impl fmt::Display for Refusal {
 
 impl core::error::Error for Refusal {}
 
+/// Why a call was refused, and where the payload breaks.
+///
+/// ```
+/// use castulfrisa::{open_list, Cause, Field, List, Refusal};
+/// let cause = open_list(&[20; 12], List::Kex).unwrap_err();
+/// assert_eq!(cause, Refusal::PastEnd);
+/// assert_eq!(cause.place.map(|place| (place.position, place.field)), Some((1, Some(Field::Cookie))));
+/// assert_eq!(cause.to_string(), "KEXINIT cut at byte 1, in the cookie (12)");
+/// assert_eq!(open_list(&[], List::Kex).unwrap_err(), Cause { refusal: Refusal::PayloadSize, place: None });
+/// ```
+#[derive(Clone, Copy, Debug, PartialEq, Eq, Hash)]
+pub struct Cause {
+    pub refusal: Refusal,
+    /// With `PastEnd` and `LeftOver` of an INIT, a REPLY or a KEXINIT; none with every other refusal.
+    pub place: Option<Place>,
+}
+
+impl fmt::Display for Cause {
+    fn fmt(&self, f: &mut fmt::Formatter<'_>) -> fmt::Result {
+        match self.place {
+            Some(place) => write!(f, "{} ({})", place, self.refusal.number()),
+            None => self.refusal.fmt(f),
+        }
+    }
+}
+
+impl core::error::Error for Cause {}
+
+impl From<Refusal> for Cause {
+    fn from(refusal: Refusal) -> Cause {
+        Cause { refusal, place: None }
+    }
+}
+
+impl From<Cause> for Refusal {
+    /// Gives the place up.
+    fn from(cause: Cause) -> Refusal {
+        cause.refusal
+    }
+}
+
+/// Whatever the place.
+impl PartialEq<Refusal> for Cause {
+    fn eq(&self, refusal: &Refusal) -> bool {
+        self.refusal == *refusal
+    }
+}
+
 /// A number as a result.
 pub(crate) fn judged(number: u64) -> Result<(), Refusal> {
     match number {
         0 => Ok(()),
         n => Err(Refusal::of(n)),
     }
+}
+
+/// A reader's, with the position that it told of its payload.
+pub(crate) fn read(number: u64, payload: &[u8], position: u64) -> Result<(), Cause> {
+    judged(number).map_err(|refusal| Cause { refusal, place: Place::of(payload, position) })
 }

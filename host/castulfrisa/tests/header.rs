@@ -115,6 +115,25 @@ fn sentences_are_the_headers() {
     assert_eq!(Refusal::of(99).to_string(), format!("{} (99)", other));
 }
 
+/// The names that castulfrisa_field has, in its order, but for the two that are no field's.
+#[test]
+fn fields_are_the_headers() {
+    let body = HEADER.split_once("*castulfrisa_field(").expect("castulfrisa_field").1.split_once("\n}\n").expect("its end").0;
+    let names = body.split('"').skip(1).step_by(2).filter(|name| !["no field", "bytes left over"].contains(name));
+    let fields = |message: Message| message.fields().iter().map(|field| field.name());
+    let mut lists = fields(Message::Kexinit).collect::<Vec<_>>();
+    // the header has those that are no lists where it comes to them
+    let (behind, ahead) = (lists.split_off(11), lists.remove(0));
+    let ours = fields(Message::Init).chain(fields(Message::Reply)).chain(lists).chain([ahead]).chain(behind);
+    assert_eq!(names.collect::<Vec<_>>(), ours.collect::<Vec<_>>());
+    assert_eq!(List::ALL.map(Field::List), Message::Kexinit.fields()[1..11]);
+    let numbers = body.split("case ").skip(1).map(|case| case.split_once(':').expect("a case").0.parse().expect("a number"));
+    assert_eq!(numbers.collect::<Vec<u8>>(), [20, 30, 31]);
+    let ours = (0..=255).filter_map(Message::of).map(|message| (message as u8, message.to_string()));
+    let ours = ours.collect::<Vec<_>>();
+    assert_eq!(ours, [(20, "KEXINIT".to_string()), (30, "INIT".to_string()), (31, "REPLY".to_string())]);
+}
+
 /// What a type of the header is here.
 fn rust(of: &str) -> String {
     match of {
@@ -197,7 +216,7 @@ fn structs_are_the_headers() {
         };
         ours.insert(name.to_string(), fields.map(pair).collect());
     }
-    assert_eq!(theirs.len(), 11);
+    assert_eq!(theirs.len(), 12);
     assert_eq!(ours, theirs);
     // each stands as C lays it out
     assert_eq!(bare(RAW).matches("#[repr(C)]").count(), ours.len());

@@ -44,7 +44,8 @@ impl Run {
     }
 }
 
-/// A server's exchange, all of it, a key, and a beginning again; what lies below this frame is wiped from here, since it reaches furthest so.
+/// A server's exchange, all of it, a key, and a beginning again that a cut INIT ends; what lies below this frame is wiped from here, since
+/// it reaches furthest so.
 #[inline(never)]
 fn exchange(run: &mut Run) {
     let greeting = Greeting { vc: b"c", vs: b"s", ic: &[20], is: &[20] };
@@ -57,7 +58,8 @@ fn exchange(run: &mut Run) {
     server.derive(Letter::CipherKeyC2s, KEY_MOST, &mut run.key).unwrap();
     let server = server.again(Method::Curve448Sha512, &[20], &[20]).unwrap();
     assert!(server.session().id() == run.h);
-    drop(server);
+    // a fault, which is told with its place
+    assert!(server.read_init(&run.init[..20]).map(|_| ()).unwrap_err().place().is_some());
     wipe_stack();
 }
 

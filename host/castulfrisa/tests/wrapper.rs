@@ -1,6 +1,6 @@
-//! What the wrapper adds to the boundary: slices for parts, refusals for numbers, an iterator for a list, an exchange that comes
-//! back or ends, and a K, keys and a hash that are wiped.
-use castulfrisa::exchange::{Complete, SecretDone, Started};
+//! What the wrapper adds to the boundary: slices for parts, refusals for numbers, places for positions, an iterator for a list, an
+//! exchange that comes back or ends, and a K, keys and a hash that are wiped.
+use castulfrisa::exchange::{CSent, Complete, SecretDone, Started};
 use castulfrisa::*;
 use std::fmt::Write;
 use std::mem::ManuallyDrop;
@@ -267,6 +267,160 @@ fn what_was_lent_is_wiped_at_every_stage() {
     assert!(b.wiped());
 }
 
+/// A client that waits for REPLY.
+fn client_at_reply(b: &mut Buffers) -> Client<'_, CSent> {
+    b.client().own_c(&[1; 32], &mut [0; INIT]).unwrap().0
+}
+
+/// What the reader of a message makes of a payload where it is due; none where it takes it.
+fn cause(message: Message, payload: &[u8]) -> Option<Cause> {
+    let mut b = Buffers::new();
+    match message {
+        Message::Kexinit => open_list(payload, List::Kex).err(),
+        Message::Init => b.server().read_init(payload).err().map(Cause::from),
+        Message::Reply => client_at_reply(&mut b).read_reply(payload).err().map(Cause::from),
+    }
+}
+
+#[test]
+fn a_message_that_breaks_is_told_in_words() {
+    let kexinit = kexinit(b"curve25519-sha256", b"ssh-ed25519", false);
+    let (init, reply) = (init(), reply());
+    let more = |payload: &[u8], with: &[u8]| [payload, with].concat();
+    let told = |message, payload: &[u8]| cause(message, payload).map(|cause| cause.to_string());
+    let of_init = |payload: &[u8]| told(Message::Init, payload).unwrap();
+    assert_eq!(of_init(&init[..1]), "INIT cut at byte 1, in C's length (12)");
+    assert_eq!(of_init(&init[..4]), "INIT cut at byte 1, in C's length (12)");
+    assert_eq!(of_init(&init[..5]), "INIT cut at byte 1, in C (12)");
+    assert_eq!(of_init(&init[..36]), "INIT cut at byte 1, in C (12)");
+    assert_eq!(of_init(&more(&init, &[0])), "INIT has bytes left over from byte 37 on (13)");
+    let of_reply = |payload: &[u8]| told(Message::Reply, payload).unwrap();
+    assert_eq!(of_reply(&reply[..3]), "REPLY cut at byte 1, in K_S's length (12)");
+    assert_eq!(of_reply(&reply[..5]), "REPLY cut at byte 1, in K_S (12)");
+    assert_eq!(of_reply(&reply[..6]), "REPLY cut at byte 6, in S's length (12)");
+    assert_eq!(of_reply(&reply[..41]), "REPLY cut at byte 6, in S (12)");
+    assert_eq!(of_reply(&reply[..42]), "REPLY cut at byte 42, in the signature's length (12)");
+    assert_eq!(of_reply(&reply[..45]), "REPLY cut at byte 42, in the signature's length (12)");
+    assert_eq!(of_reply(&reply[..46]), "REPLY cut at byte 42, in the signature (12)");
+    assert_eq!(of_reply(&more(&reply, b"more")), "REPLY has bytes left over from byte 47 on (13)");
+    let of_kexinit = |payload: &[u8]| told(Message::Kexinit, payload).unwrap();
+    assert_eq!(of_kexinit(&kexinit[..1]), "KEXINIT cut at byte 1, in the cookie (12)");
+    assert_eq!(of_kexinit(&kexinit[..16]), "KEXINIT cut at byte 1, in the cookie (12)");
+    assert_eq!(of_kexinit(&kexinit[..17]), "KEXINIT cut at byte 17, in kex_algorithms's length (12)");
+    assert_eq!(of_kexinit(&kexinit[..37]), "KEXINIT cut at byte 17, in kex_algorithms (12)");
+    assert_eq!(of_kexinit(&kexinit[..38]), "KEXINIT cut at byte 38, in server_host_key_algorithms's length (12)");
+    assert_eq!(of_kexinit(&kexinit[..85]), "KEXINIT cut at byte 85, in first_kex_packet_follows (12)");
+    assert_eq!(of_kexinit(&kexinit[..86]), "KEXINIT cut at byte 86, in reserved (12)");
+    assert_eq!(of_kexinit(&kexinit[..89]), "KEXINIT cut at byte 86, in reserved (12)");
+    assert_eq!(of_kexinit(&more(&kexinit, &[0])), "KEXINIT has bytes left over from byte 90 on (13)");
+    assert_eq!((told(Message::Init, &init), told(Message::Reply, &reply), told(Message::Kexinit, &kexinit)), (None, None, None));
+
+    // a step's own error says it as well, and a place by itself does without the number
+    let mut b = Buffers::new();
+    let stopped = b.server().read_init(&init[..9]).map(|_| ()).unwrap_err();
+    assert_eq!(stopped.to_string(), "INIT cut at byte 1, in C (12)");
+    let place = Place { message: Message::Init, position: 1, field: Some(Field::C), in_length: false };
+    assert_eq!((stopped.refusal(), stopped.place()), (Refusal::PastEnd, Some(place)));
+    assert_eq!(place.to_string(), "INIT cut at byte 1, in C");
+    assert_eq!((Refusal::from(Cause::from(stopped)), b.wiped()), (Refusal::PastEnd, true));
+}
+
+/// Where the fields of a message begin, whether they are strings, and behind them where the last one ends.
+fn borders(message: Message, payload: &[u8]) -> Vec<(usize, bool)> {
+    let mut at = 1;
+    let mut all = vec![];
+    for field in message.fields() {
+        let fixed = match field {
+            Field::Cookie => Some(16),
+            Field::Follows => Some(1),
+            Field::Reserved => Some(4),
+            _ => None,
+        };
+        all.push((at, fixed.is_none()));
+        at += fixed.unwrap_or_else(|| 4 + payload[at + 3] as usize);
+    }
+    assert_eq!(at, payload.len());
+    all.push((at, false));
+    all
+}
+
+#[test]
+fn every_cut_is_told_with_its_field() {
+    let mut out = [0; 4096];
+    let lists: [&[u8]; 10] = [b"a,bc", b"d", b"", b"e", b"", b"", b"f", b"", b"gh", b"i"];
+    let n = write_kexinit(&mut out, &[3; 16], &lists, true, 9).unwrap();
+    for (message, whole) in [(Message::Init, init()), (Message::Reply, reply()), (Message::Kexinit, out[..n].to_vec())] {
+        let borders = borders(message, &whole);
+        for len in 1..whole.len() {
+            let i = borders.iter().rposition(|(at, _)| *at <= len).unwrap();
+            let ((position, string), field) = (borders[i], Some(message.fields()[i]));
+            let place = Place { message, position, field, in_length: string && len < position + 4 };
+            assert_eq!(cause(message, &whole[..len]), Some(Cause { refusal: Refusal::PastEnd, place: Some(place) }), "{} bytes", len);
+            assert_eq!(Place::of(&whole[..len], position as u64), Some(place));
+        }
+        for more in [1, 4, 9] {
+            let place = Place { message, position: whole.len(), field: None, in_length: false };
+            let cause = cause(message, &[&whole[..], &vec![0; more]].concat());
+            assert_eq!(cause, Some(Cause { refusal: Refusal::LeftOver, place: Some(place) }));
+        }
+        // lengths that pass the end by one, and by as much as can be
+        for (i, (at, _)) in borders.iter().enumerate().filter(|(_, border)| border.1) {
+            for len in [(whole.len() - at - 3) as u32, 0xffff_fffd, u32::MAX] {
+                let mut payload = whole.clone();
+                payload[*at..at + 4].copy_from_slice(&len.to_be_bytes());
+                let place = Place { message, position: *at, field: Some(message.fields()[i]), in_length: false };
+                assert_eq!(cause(message, &payload), Some(Cause { refusal: Refusal::PastEnd, place: Some(place) }));
+            }
+        }
+    }
+}
+
+#[test]
+fn no_other_refusal_has_a_place() {
+    let none = |refusal| Some(Cause { refusal, place: None });
+    for message in [Message::Init, Message::Reply, Message::Kexinit] {
+        assert_eq!(cause(message, &[]), none(Refusal::PayloadSize));
+        let mut long = vec![0; PAYLOAD_MOST + 1];
+        long[0] = message as u8;
+        assert_eq!(cause(message, &long), none(Refusal::PayloadSize));
+        assert_eq!(cause(message, &[21, 0, 0]), none(Refusal::Message));
+    }
+    let mut short = init();
+    (short[4], _) = (31, short.pop());
+    assert_eq!(cause(Message::Init, &short), none(Refusal::FieldLength));
+    let bare = [31, 0, 0, 0, 0, 0, 0, 0, 0, 0, 0, 0, 0];
+    assert_eq!(cause(Message::Reply, &bare), none(Refusal::FieldLength));
+    let mut b = Buffers::new();
+    let server = Server::start(Method::Nistp256Sha256, GREETING, &mut b.exchange, &mut b.room).unwrap();
+    let lead = server.read_init(&[&[30, 0, 0, 0, 65][..], &[3; 65]].concat()).err().map(Cause::from);
+    assert_eq!(lead, none(Refusal::LeadByte));
+    assert_eq!(lead.unwrap().to_string(), Refusal::LeadByte.to_string());
+    // steps that read nothing; the second brings the exchange back
+    let no = client_at_secret(&mut b).verdict(false, true, &mut K::new()).err().map(Cause::from);
+    assert_eq!(no, none(Refusal::Verdict));
+    let stopped = b.client().own_c(&[], &mut [0; INIT]).map(|_| ()).unwrap_err();
+    assert_eq!((stopped.refusal(), stopped.place()), (Refusal::BadInput, None));
+    assert_eq!(stopped.to_string(), Refusal::BadInput.to_string());
+    assert_eq!(Cause::from(stopped), Cause::from(Refusal::BadInput));
+    // a choice has none: who wants to know opens the payload
+    assert_eq!(choose(&[20], &[20]), Err(Refusal::PastEnd));
+}
+
+#[test]
+fn a_position_is_one_of_a_field_or_of_what_is_left() {
+    let kexinit = kexinit(b"a", b"b", false);
+    let reply = reply();
+    for (payload, message) in [(&kexinit, Message::Kexinit), (&reply, Message::Reply), (&init(), Message::Init)] {
+        let borders = borders(message, payload);
+        for position in (0..payload.len() as u64 + 9).chain([1 << 32 | 1, u64::MAX]) {
+            let i = borders.iter().position(|(at, _)| *at as u64 == position);
+            let field = i.map(|i| message.fields().get(i).copied());
+            assert_eq!(Place::of(payload, position).map(|place| place.field), field, "{} of {}", position, message);
+        }
+    }
+    assert_eq!((Place::of(&[], 0), Place::of(&[], 1), Place::of(&[21, 0], 1), Place::of(&[30], 0)), (None, None, None, None));
+}
+
 /// The digest of a message fed in two parts.
 fn sha(kind: Kind, message: &[u8]) -> Vec<u8> {
     let (one, two) = message.split_at(message.len() / 3);
@@ -476,6 +630,17 @@ fn what_no_type_lets_through_is_refused_by_the_boundary() {
     assert_eq!((told, &id[32..]), (raw::Session { id_len: 32, completed: 4_294_967_295 }, &[0; 32][..]));
     assert_eq!(raw::session_id(&b.exchange[1..], &mut told, &mut id), 1);
     assert_eq!((told, id), (raw::Session::default(), [0; H_SIZE]));
+    // a cut INIT that is not due, or has a room that is too short, is no fault, and has no position
+    let full = |word| raw::Init { c: raw::Part { start: word, len: word }, position: word };
+    let mut told = full(7);
+    assert_eq!(raw::read_init(&mut b.exchange, &mut b.room, &[30], &mut told), 1);
+    assert_eq!(told, full(0));
+    std::mem::forget(b.server());
+    told = full(7);
+    assert_eq!(raw::read_init(&mut b.exchange, &mut b.room[..ROOM - 1], &[30], &mut told), 3);
+    assert_eq!(told, full(0));
+    assert_eq!(raw::read_init(&mut b.exchange, &mut b.room, &[30], &mut told), 12);
+    assert_eq!((told.c, told.position), (raw::Part::default(), 1));
 }
 
 #[test]

@@ -4,6 +4,7 @@
 use crate::random::Random;
 use crate::stored::{exchange_of, EXCHANGE};
 use plain::{Exchange, Session, Stage, COMPLETED_MOST, H, KEY_MOST, K_RECORD};
+use std::ops::Range;
 
 /// How many methods there are; the wrapper's list is held to the header.
 pub const METHODS: usize = castulfrisa::Method::ALL.len();
@@ -204,12 +205,31 @@ fn string(v: &mut Vec<u8>, body: &[u8]) {
     v.extend_from_slice(body);
 }
 
-/// A message, or one with something wrong.
-fn damaged(r: &mut Random, mut v: Vec<u8>) -> Vec<u8> {
+/// Breaks a message in one of its fields, in each as often as in another: cuts it at the field's border or beside it, or, of a string, has
+/// its length pass the end. `begins` has where the fields begin, `strings` which of them are strings.
+pub fn broken(r: &mut Random, v: &mut Vec<u8>, begins: &[usize], strings: Range<usize>) {
+    let i = r.below(begins.len());
+    let (from, to) = (begins[i], begins.get(i + 1).copied().unwrap_or(v.len()));
+    let ahead = (v.len() - from - 1) as u32;
+    match r.below(6) {
+        0 => v.truncate(from),
+        1 => v.truncate(to.min(from + r.range(2, 4)) - 1),
+        2 | 3 if strings.contains(&i) => {
+            // by one byte, by some, or so that it wraps where 4 is added in 32 bits
+            let len = r.of(&[ahead - 2, ahead, 0x8000_0000, 0xffff_fffd, 0xffff_ffff]);
+            v[from..from + 4].copy_from_slice(&len.to_be_bytes());
+        }
+        4 => v.truncate(to - 1),
+        _ => v.truncate(r.range(from, to - 1)),
+    }
+}
+
+/// A message, or one with something wrong; `begins` has where its fields, all of them strings, begin.
+fn damaged(r: &mut Random, mut v: Vec<u8>, begins: &[usize]) -> Vec<u8> {
     if !r.once_in(5) {
         return v;
     }
-    match r.below(9) {
+    match r.below(12) {
         0 => v.clear(),
         1 => v.resize(32_769, 0),
         2 => v[0] = r.byte(),
@@ -236,26 +256,33 @@ fn damaged(r: &mut Random, mut v: Vec<u8>) -> Vec<u8> {
             let i = r.below(v.len());
             v[i] = r.byte();
         }
-        _ => {
+        8 => {
             let n = r.below(64);
             v = r.bytes(n);
         }
+        _ => broken(r, &mut v, begins, 0..begins.len()),
     }
     v
 }
 
+/// A message of these strings, or one with something wrong.
+fn message(r: &mut Random, number: u8, bodies: &[Vec<u8>]) -> Vec<u8> {
+    let (mut v, mut begins) = (vec![number], Vec::new());
+    for body in bodies {
+        begins.push(v.len());
+        string(&mut v, body);
+    }
+    damaged(r, v, &begins)
+}
+
 fn init(r: &mut Random, method: u8) -> Vec<u8> {
-    let mut v = vec![30];
-    string(&mut v, &c_value(r, method));
-    damaged(r, v)
+    let c = c_value(r, method);
+    message(r, 30, &[c])
 }
 
 fn reply(r: &mut Random, method: u8) -> Vec<u8> {
-    let mut v = vec![31];
-    string(&mut v, &blob(r));
-    string(&mut v, &s_value(r, method));
-    string(&mut v, &blob(r));
-    damaged(r, v)
+    let bodies = [blob(r), s_value(r, method), blob(r)];
+    message(r, 31, &bodies)
 }
 
 /// X: any number, often with leading zeros, sometimes nothing but zeros.

@@ -1,5 +1,5 @@
 //! Rounds of strings, mpints, methods, KEXINIT and choice on both, every lent buffer and every lent number at a fence.
-use crate::calls::{widened, yes_or_no, METHODS};
+use crate::calls::{broken, widened, yes_or_no, METHODS};
 use crate::fence::{self, Fence};
 use crate::random::Random;
 use crate::tally::Tally;
@@ -38,6 +38,16 @@ pub struct Lent {
     inputs: [Fence; 2],
     numbers: [Fence; 2],
     ends: Fence,
+}
+
+impl Lent {
+    /// A KEXINIT opened on the core; the lent numbers hold `word` until then.
+    pub fn open(&mut self, payload: &[u8], list: u64, word: u64) -> (u64, raw::Opened) {
+        let ahead = word % 2 == 0;
+        let told: &mut raw::Opened = self.numbers[0].numbers(word, ahead);
+        let number = raw::open_list(self.inputs[0].lend(payload, ahead), list, told);
+        (number, *told)
+    }
 }
 
 /// Both sides of one call: what was given, and what stands in the output after it.
@@ -219,17 +229,36 @@ pub fn ten(r: &mut Random) -> Vec<Vec<u8>> {
     lists
 }
 
-pub fn payload(r: &mut Random) -> Vec<u8> {
+/// A KEXINIT, and where its fields begin: the cookie, the lists, boolean and reserved number.
+fn fields(r: &mut Random) -> (Vec<u8>, Vec<usize>) {
     let mut v = vec![20];
     v.extend(r.bytes(16));
+    let mut begins = vec![1];
     for l in ten(r) {
+        begins.push(v.len());
         v.extend_from_slice(&(l.len() as u32).to_be_bytes());
         v.extend_from_slice(&l);
     }
+    begins.extend([v.len(), v.len() + 1]);
     v.push(r.of(&[0, 0, 0, 1, 1, 2, 255]));
     v.extend(r.bytes(4));
+    (v, begins)
+}
+
+/// One to open: often it breaks in a field.
+pub fn opened(r: &mut Random) -> Vec<u8> {
+    if r.once_in(4) {
+        let (mut v, begins) = fields(r);
+        broken(r, &mut v, &begins, 1..11);
+        return v;
+    }
+    payload(r)
+}
+
+pub fn payload(r: &mut Random) -> Vec<u8> {
+    let (mut v, begins) = fields(r);
     if r.once_in(8) {
-        match r.below(7) {
+        match r.below(8) {
             0 => v.clear(),
             1 => v[0] = r.byte(),
             2 => {
@@ -242,6 +271,7 @@ pub fn payload(r: &mut Random) -> Vec<u8> {
                 v[i] = r.byte();
             }
             5 => v[17..21].copy_from_slice(&r.of(&[0xffff_fffdu32, 0xffff_ffff, 5000, 0]).to_be_bytes()),
+            6 => broken(r, &mut v, &begins, 1..11),
             _ => {
                 let n = r.below(100);
                 v = r.bytes(n);
@@ -271,19 +301,31 @@ fn next_on_both(
     Ok((after, model.found))
 }
 
+/// The specification's opening of a list, as the boundary tells it.
+pub fn opened_of(payload: &[u8], list: u64) -> (u64, raw::Opened) {
+    let model = plain::open_list(payload, list as usize);
+    let opened = raw::Opened {
+        cookie: part(model.cookie),
+        follows: model.follows.into(),
+        reserved: model.reserved.into(),
+        cursor: raw::Cursor { at: model.cursor.at as u64, end: model.cursor.end as u64 },
+        position: model.position as u64,
+    };
+    (model.number.into(), opened)
+}
+
 fn reader(r: &mut Random, f: &mut Lent, t: &mut Tally) -> Result<(), String> {
     let ahead = r.coin();
-    let p = payload(r);
+    let p = opened(r);
     let lent = f.inputs[0].lend(&p, ahead);
     let list = list_number(r);
     let told: &mut raw::Opened = f.numbers[0].numbers(r.word(), ahead);
     let number = raw::open_list(lent, list, told);
-    let model = plain::open_list(&p, list as usize);
     t.note("open_list", number);
-    let cursor = raw::Cursor { at: model.cursor.at as u64, end: model.cursor.end as u64 };
-    let opened = raw::Opened { cookie: part(model.cookie), follows: model.follows.into(), reserved: model.reserved.into(), cursor };
-    same(|| format!("open_list {} {}", hex(&p), list), (number, *told), (model.number.into(), opened))?;
-    let mut cursor = cursor;
+    t.broke(&p, number, told.position);
+    let model = opened_of(&p, list);
+    same(|| format!("open_list {} {}", hex(&p), list), (number, *told), model)?;
+    let mut cursor = model.1.cursor;
     loop {
         let (after, found) = next_on_both(r, &p, lent, cursor, &mut f.numbers, t)?;
         if !found {

@@ -36,6 +36,7 @@ unsafe impl Numbers for raw::Cursor {}
 unsafe impl Numbers for raw::Opened {}
 unsafe impl Numbers for raw::Proposed {}
 unsafe impl Numbers for raw::Choice {}
+unsafe impl Numbers for raw::Init {}
 unsafe impl Numbers for raw::Reply {}
 unsafe impl Numbers for raw::Signed {}
 unsafe impl Numbers for raw::Progress {}
@@ -166,10 +167,10 @@ mod tests {
         let mut fence = Fence::new();
         for ahead in [false, true] {
             let reply: &mut raw::Reply = fence.numbers(77, ahead);
-            assert_eq!(reply.words(), [77, 77, 77, 77, 77, 77, 0, 0, 0, 0]);
+            assert_eq!(reply.words(), [77, 77, 77, 77, 77, 77, 77, 0, 0, 0]);
             let at = ptr::from_mut(reply).cast::<u8>();
-            assert_eq!(touched(at, if ahead { -1 } else { 48 }), 11);
-            assert_eq!((touched(at, 0), touched(at, 47)), (0, 0));
+            assert_eq!(touched(at, if ahead { -1 } else { 56 }), 11);
+            assert_eq!((touched(at, 0), touched(at, 55)), (0, 0));
         }
         assert_eq!(fence.given(raw::Part { start: 3, len: 4 }, false).words(), [3, 4, 0, 0, 0, 0, 0, 0, 0, 0]);
         assert_eq!((-1i64).words()[0], u64::MAX);

@@ -2,7 +2,7 @@
 //! outputs and of the inputs is compared.
 use crate::calls::{self, Call, Field};
 use crate::fence::{Fence, Numbers};
-use crate::model::{Given, Side};
+use crate::model::{Given, Side, TOLD};
 use crate::random::Random;
 use crate::stored::{bytes_of, exchange_of, forge, numbers_of, put_session, EXCHANGE, MARK};
 use crate::tally::Tally;
@@ -56,7 +56,7 @@ struct Ahead {
 /// A call for a part: exchange, room, payload.
 pub type PartEntry = fn(&[u8], &[u8], &[u8], &mut raw::Part) -> u64;
 
-fn six(words: [u64; 10]) -> [u64; 6] {
+fn told(words: [u64; 10]) -> [u64; TOLD] {
     std::array::from_fn(|i| words[i])
 }
 
@@ -155,38 +155,38 @@ impl Lent {
             Call::OwnC { c, .. } => {
                 let count: &mut u64 = numbers.numbers(word, ahead);
                 let number = raw::own_c(exchange, room, i0.lend(c, ahead), out, count);
-                given.told = six(count.words());
+                given.told = told(count.words());
                 number
             }
             Call::Init(p) => {
-                let part: &mut raw::Part = numbers.numbers(word, ahead);
-                let number = raw::read_init(exchange, room, i0.lend(p, ahead), part);
-                given.told = six(part.words());
+                let init: &mut raw::Init = numbers.numbers(word, ahead);
+                let number = raw::read_init(exchange, room, i0.lend(p, ahead), init);
+                given.told = told(init.words());
                 number
             }
             Call::Reply(p) => {
                 let parts: &mut raw::Reply = numbers.numbers(word, ahead);
                 let number = raw::read_reply(exchange, room, i0.lend(p, ahead), parts);
-                given.told = six(parts.words());
+                given.told = told(parts.words());
                 number
             }
             Call::Secret { given: yes, x_count, x, kem, k_pq, ks, s } => {
                 let (x, k_pq, ks, s) = (i0.lend(x, ahead), i1.lend(k_pq, ahead), i2.lend(ks, ahead), i3.lend(s, ahead));
                 let count: &mut u64 = numbers.numbers(word, ahead);
                 let number = raw::take_secret(exchange, room, *yes, *x_count, x, *kem, k_pq, ks, s, count, self.h.array());
-                given.told = six(count.words());
+                given.told = told(count.words());
                 number
             }
             Call::Sign { signature, .. } => {
                 let counts: &mut raw::Signed = numbers.numbers(word, ahead);
                 let number = raw::sign(exchange, room, i0.lend(signature, ahead), out, k_out, counts);
-                given.told = six(counts.words());
+                given.told = told(counts.words());
                 number
             }
             Call::Verdict { signature, host_key, .. } => {
                 let count: &mut u64 = numbers.numbers(word, ahead);
                 let number = raw::verdict(exchange, room, *signature, *host_key, k_out, count);
-                given.told = six(count.words());
+                given.told = told(count.words());
                 number
             }
             Call::Again { method, ic, is } => {
@@ -229,6 +229,15 @@ pub fn entry(call: &Call) -> Option<&'static str> {
         Call::Derive { .. } => "derive",
         _ => return None,
     })
+}
+
+/// The payload of a call that reads one, and the position that was told of it.
+pub fn position<'a>(call: &'a Call, given: &Given) -> Option<(&'a [u8], u64)> {
+    match call {
+        Call::Init(payload) => Some((payload, given.told[2])),
+        Call::Reply(payload) => Some((payload, given.told[6])),
+        _ => None,
+    }
 }
 
 /// What a run of lists saw, beside the numbers.
@@ -609,6 +618,9 @@ pub fn list(seed: u64, index: u64, core: &mut Lent, tally: &mut Tally, seen: &mu
         }
         let told = |what| format!("seed {}, list {}, call {}: {}", seed, index, i, what);
         let given = both(core, &mut model, &call, r.word(), tally).map_err(told)?;
+        if let Some((payload, position)) = position(&call, &given) {
+            tally.broke(payload, given.number, position);
+        }
         seen.note(&call, &given, before.as_ref(), &model.exchange);
         if keeps {
             core.kept.add(&model.exchange, &model.room);

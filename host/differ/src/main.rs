@@ -1,13 +1,14 @@
 //! The differential test: HELP says what it tries.
 use differ::command::{words, wrong};
-use differ::{codecs, hashes, keys, lists, sessions, tally::Tally};
+use differ::{captured, codecs, cuts, hashes, keys, lists, sessions, tally::Tally};
 use std::process::ExitCode;
 
 const HELP: &str = "\
-usage: differ [--lists N] [--rounds N] [--hashes N] [--seed N] [--list I | --round I | --hash I] [--progress]
-Random lists of calls, keys and sessions one thing at a time, lists of calls of a hash, and rounds of codecs, methods, KEXINIT and choice, on the
-compiled library and on the specification in plain Rust. A difference names its list, round or hash, which --list, --round or --hash runs alone, with
-the same --seed, and without a word where both agree. A byte touched outside of what was lent ends the run with a signal.
+usage: differ [--lists N] [--rounds N] [--hashes N] [--seed N] [--captures FOLDER] [--list I | --round I | --hash I] [--progress]
+Random lists of calls, keys and sessions one thing at a time, lists of calls of a hash, rounds of codecs, methods, KEXINIT and choice, and every
+captured message of a folder (tests/captures where none is named) broken in every place, on the compiled library and on the specification in plain
+Rust. A difference names its list, round or hash, which --list, --round or --hash runs alone, with the same --seed, and without a word where both
+agree. A byte touched outside of what was lent ends the run with a signal.
 `make rust-host` makes it: build/cargo/release/differ, and with the library for size build/cargo-small/release/differ. Without words it makes a million
 lists and 300,000 of the others, in 25 seconds; --lists 10000 --rounds 3000 --hashes 3000 take one.
 Exits 0; 1 at the first difference, where an entry gave a number that is not its own or never gave one that is, and where something was never tried, as
@@ -19,6 +20,7 @@ struct Asked {
     rounds: u64,
     hashes: u64,
     seed: u64,
+    captures: String,
     only_list: Option<u64>,
     only_round: Option<u64>,
     only_hash: Option<u64>,
@@ -32,6 +34,7 @@ fn asked(words: Vec<String>) -> Option<Asked> {
         rounds: 300_000,
         hashes: 300_000,
         seed: 20_261_115,
+        captures: "tests/captures".into(),
         only_list: None,
         only_round: None,
         only_hash: None,
@@ -43,7 +46,12 @@ fn asked(words: Vec<String>) -> Option<Asked> {
             a.progress = true;
             continue;
         }
-        let n = words.next()?.parse().ok()?;
+        let next = words.next()?;
+        if word == "--captures" {
+            a.captures = next;
+            continue;
+        }
+        let n = next.parse().ok()?;
         match &word[..] {
             "--lists" => a.lists = n,
             "--rounds" => a.rounds = n,
@@ -83,6 +91,10 @@ fn run(a: &Asked) -> Result<bool, String> {
     };
     codecs::rows(&mut lent_to_codecs, &mut tally)?;
     codecs::long(&mut tally)?;
+    let mut of_cuts = cuts::Tried::default();
+    for capture in captured::all(&a.captures)? {
+        cuts::capture(&mut of_cuts, &capture).map_err(|what| format!("{}: {}", capture.name, what))?;
+    }
     for i in 0..a.rounds {
         codecs::round(a.seed, i, &mut lent_to_codecs, &mut tally)?;
         tell("rounds", i, a.rounds);
@@ -101,13 +113,18 @@ fn run(a: &Asked) -> Result<bool, String> {
         tell("hashes", i, a.hashes);
     }
     println!(
-        "seed {}: {} rounds of codecs, KEXINIT and choice, {} lists of calls, {} keys and {} calls on sessions one by one, {} lists of a hash, no difference",
-        a.seed, a.rounds, a.lists, lent_to_keys.count, of_sessions.count, a.hashes
+        "seed {}: {} rounds of codecs, KEXINIT and choice, {} lists of calls, {} keys and {} calls on sessions one by one, {} payloads of captured \
+         messages broken, {} lists of a hash, no difference",
+        a.seed, a.rounds, a.lists, lent_to_keys.count, of_sessions.count, of_cuts.payloads, a.hashes
     );
     println!("lists:");
     let all = seen.print();
     println!("hashes:");
     let all = tried.print() && all;
+    println!("captured messages, and how often each field was the cut one, in its length bytes and behind them:");
+    let all = of_cuts.print() && all;
+    println!("random messages, likewise:");
+    let all = tally.print_broke() && all;
     println!("share of each number among an entry's answers:");
     Ok(tally.print() && all)
 }

@@ -4,16 +4,19 @@ use crate::random::Random;
 use crate::stored::{bytes_of, exchange_of, forge, numbers_of, put_session, EXCHANGE};
 use plain::{Answer, Classical, Exchange, Kem, Part, H};
 
-/// What a call gave, on either side: its number, what it told through lent numbers, what the calls of their own for the four
-/// parts of a payload gave (number, start and length of each), and the state and the session after it.
+/// What a call gave, on either side: its number, what it told through lent numbers, with INIT and REPLY the position last, what the
+/// calls of their own for the four parts of a payload gave (number, start and length of each), and the state and the session after it.
 #[derive(Clone, Copy, Debug, Default, PartialEq)]
 pub struct Given {
     pub number: u64,
-    pub told: [u64; 6],
+    pub told: [u64; TOLD],
     pub parts: [[u64; 3]; 4],
     pub state: [u64; 5],
     pub session: [u64; 3],
 }
+
+/// The most numbers that a call tells: REPLY's.
+pub const TOLD: usize = 7;
 
 /// What is lent on the plain implementation's side.
 #[derive(Default)]
@@ -49,11 +52,13 @@ pub fn derived(exchange: &[u8], letter: u64, length: u64, key: &mut [u8]) -> u64
     exchange_of(exchange).map_or(1, |e| plain::derive(&e, byte(letter), length as usize, key).into())
 }
 
-fn six(parts: &[Part]) -> [u64; 6] {
-    let mut all = [0; 6];
+/// A reader's parts, and the position behind them.
+fn told(parts: &[Part], position: usize) -> [u64; TOLD] {
+    let mut all = [0; TOLD];
     for (two, part) in all.chunks_exact_mut(2).zip(parts) {
         two.copy_from_slice(&[part.start as u64, part.len as u64]);
     }
+    all[2 * parts.len()] = position as u64;
     all
 }
 
@@ -202,8 +207,9 @@ impl Side {
         };
         given.number = a.number.into();
         given.told = match call {
-            Call::Init(_) | Call::Reply(_) => six(&parts),
-            _ => [a.count as u64, a.second as u64, 0, 0, 0, 0],
+            Call::Init(_) => told(&parts[..1], a.position),
+            Call::Reply(_) => told(&parts, a.position),
+            _ => [a.count as u64, a.second as u64, 0, 0, 0, 0, 0],
         };
         self.exchange.copy_from_slice(&bytes_of(&a.exchange));
         given

@@ -13,9 +13,9 @@ pub struct Choice {
     pub ignore_server: bool,
 }
 
-/// Judges one payload whole: 10 to 13, then all ten lists for 19.
+/// Judges one payload whole: 10 to 13, then all ten lists for 19. A choice has no position.
 fn judge(payload: &[u8]) -> Result<Layout, u8> {
-    let layout = layout(payload)?;
+    let layout = layout(payload).map_err(|why| why.number)?;
     if !layout.lists.iter().all(|list| list_is_good(list.of(payload))) {
         return Err(19);
     }

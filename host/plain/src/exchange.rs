@@ -5,7 +5,7 @@
 use crate::kexinit::{KEXINIT, PAYLOAD_MAX as I_MAX};
 use crate::methods::{self, Method};
 use crate::sha2::{hash_of, DIGEST};
-use crate::wire::{put_string, string_at, Part};
+use crate::wire::{put_string, string_at, Part, Refused};
 
 /// Eight lengths, two V, two I, K_S, the longest C and S, and the K that goes with them.
 pub const ROOM: usize = 32 + 506 + 8_192 + 2_048 + 3_330 + 48;
@@ -116,12 +116,14 @@ pub struct Answer {
     pub second: usize,
     /// H at the secret step, all zeros on a refusal.
     pub h: [u8; H],
+    /// Where INIT or REPLY breaks, with 12 and 13.
+    pub position: usize,
     pub exchange: Exchange,
 }
 
 impl Default for Answer {
     fn default() -> Self {
-        Answer { number: 0, count: 0, second: 0, h: [0; H], exchange: Exchange::default() }
+        Answer { number: 0, count: 0, second: 0, h: [0; H], position: 0, exchange: Exchange::default() }
     }
 }
 
@@ -140,12 +142,12 @@ pub enum Kem {
 }
 
 fn accepted(count: usize, exchange: Exchange) -> Answer {
-    Answer { number: 0, count, second: 0, h: [0; H], exchange }
+    Answer { count, exchange, ..Answer::default() }
 }
 
 /// A refusal that is no peer fault: nothing changes.
 fn unchanged(number: u8, exchange: Exchange) -> Answer {
-    Answer { number, count: 0, second: 0, h: [0; H], exchange }
+    Answer { number, exchange, ..Answer::default() }
 }
 
 /// A peer fault fills the whole room, the K record and H with zeros and fails the exchange for good, recorded lengths 0.
@@ -328,33 +330,33 @@ fn add_c(mut e: Exchange, room: &mut [u8], c: &[u8], stage: Stage) -> Exchange {
 }
 
 /// Judges 10, 11, then 12 and 13 through the whole message of that many strings.
-fn strings<const N: usize>(payload: &[u8], message: u8) -> Result<[Part; N], u8> {
+fn strings<const N: usize>(payload: &[u8], message: u8) -> Result<[Part; N], Refused> {
     if payload.is_empty() || payload.len() > PAYLOAD_MAX {
-        return Err(10);
+        return Err(10.into());
     }
     if payload[0] != message {
-        return Err(11);
+        return Err(11.into());
     }
     let mut parts = [Part::default(); N];
     let mut at = 1;
     for part in &mut parts {
-        *part = string_at(payload, at).ok_or(12)?;
+        *part = string_at(payload, at).ok_or(Refused::cut(at))?;
         at = part.end();
     }
     if at != payload.len() {
-        return Err(13);
+        return Err(Refused::left_over(at));
     }
     Ok(parts)
 }
 
-fn judge_init(e: &Exchange, room: &[u8], payload: &[u8]) -> Result<Part, u8> {
+fn judge_init(e: &Exchange, room: &[u8], payload: &[u8]) -> Result<Part, Refused> {
     let row = due(e, SERVER, Stage::Started, room)?;
     let [c] = strings(payload, INIT)?;
     if c.len != row.c_len {
-        return Err(14);
+        return Err(14.into());
     }
     if !row.c_lead_is_good(c.of(payload)) {
-        return Err(15);
+        return Err(15.into());
     }
     Ok(c)
 }
@@ -363,8 +365,13 @@ fn judge_init(e: &Exchange, room: &[u8], payload: &[u8]) -> Result<Part, u8> {
 pub fn read_init(e: Exchange, room: &mut [u8], payload: &[u8]) -> Answer {
     match judge_init(&e, room, payload) {
         Ok(c) => accepted(0, add_c(e, room, c.of(payload), Stage::Init)),
-        Err(number) => refused(number, e, room),
+        Err(why) => unread(why, e, room),
     }
+}
+
+/// A message that was refused, with where it breaks.
+fn unread(why: Refused, e: Exchange, room: &mut [u8]) -> Answer {
+    Answer { position: why.position, ..refused(why.number, e, room) }
 }
 
 /// C as a part of the payload, on the same input as the step and ahead of it; empty when that input is refused.
@@ -372,14 +379,14 @@ pub fn init_c(e: &Exchange, room: &[u8], payload: &[u8]) -> Part {
     judge_init(e, room, payload).unwrap_or_default()
 }
 
-fn judge_reply(e: &Exchange, room: &[u8], payload: &[u8]) -> Result<[Part; 3], u8> {
+fn judge_reply(e: &Exchange, room: &[u8], payload: &[u8]) -> Result<[Part; 3], Refused> {
     let row = due(e, CLIENT, Stage::OwnC, room)?;
     let [k_s, s, signature] = strings(payload, REPLY)?;
     if !k_s_len_is_good(k_s.len) || s.len != row.s_len || !signature_len_is_good(signature.len) {
-        return Err(14);
+        return Err(14.into());
     }
     if !row.s_lead_is_good(s.of(payload)) {
-        return Err(15);
+        return Err(15.into());
     }
     Ok([k_s, s, signature])
 }
@@ -393,7 +400,7 @@ pub fn read_reply(e: Exchange, room: &mut [u8], payload: &[u8]) -> Answer {
             next.stage = Stage::Reply;
             accepted(0, next)
         }
-        Err(number) => refused(number, e, room),
+        Err(why) => unread(why, e, room),
     }
 }
 

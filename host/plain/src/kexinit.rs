@@ -1,6 +1,6 @@
 //! KEXINIT: the view over a lent payload, and the writer.
 
-use crate::wire::{put_string, string_at, Part, Written};
+use crate::wire::{put_string, string_at, Part, Refused, Written};
 
 pub(crate) const KEXINIT: u8 = 20;
 pub(crate) const PAYLOAD_MAX: usize = 4096;
@@ -28,6 +28,8 @@ pub struct Opened {
     pub follows: bool,
     pub reserved: u32,
     pub cursor: Cursor,
+    /// Where the payload breaks, with 12 and 13.
+    pub position: usize,
 }
 
 #[derive(Clone, Copy, PartialEq, Eq, Debug, Default)]
@@ -45,26 +47,30 @@ pub(crate) struct Layout {
     pub(crate) reserved: u32,
 }
 
-/// Judges 10 to 13.
-pub(crate) fn layout(payload: &[u8]) -> Result<Layout, u8> {
+/// Judges 10 to 13, field by field, so that a cut is told at the first field that it cuts.
+pub(crate) fn layout(payload: &[u8]) -> Result<Layout, Refused> {
     if payload.is_empty() || payload.len() > PAYLOAD_MAX {
-        return Err(10);
+        return Err(10.into());
     }
     if payload[0] != KEXINIT {
-        return Err(11);
+        return Err(11.into());
+    }
+    if payload.len() < COOKIE.end() {
+        return Err(Refused::cut(COOKIE.start));
     }
     let mut lists = [Part::default(); LISTS];
     let mut at = COOKIE.end();
     for list in &mut lists {
-        *list = string_at(payload, at).ok_or(12)?;
+        *list = string_at(payload, at).ok_or(Refused::cut(at))?;
         at = list.end();
     }
-    // With a cookie cut short no list is found behind it, so that is 12 as well.
-    let (tail, left_over) = payload[at..].split_first_chunk::<5>().ok_or(12)?;
+    let (&follows, rest) = payload[at..].split_first().ok_or(Refused::cut(at))?;
+    // the reserved number is a field of its own
+    at += 1;
+    let (&reserved, left_over) = rest.split_first_chunk::<4>().ok_or(Refused::cut(at))?;
     if !left_over.is_empty() {
-        return Err(13);
+        return Err(Refused::left_over(at + 4));
     }
-    let [follows, reserved @ ..] = *tail;
     Ok(Layout { lists, follows: follows != 0, reserved: u32::from_be_bytes(reserved) })
 }
 
@@ -99,17 +105,20 @@ pub fn list_is_good(mut list: &[u8]) -> bool {
 
 /// Opens one list of a payload: 4, then 10 to 13. Names are judged only as they are yielded.
 pub fn open_list(payload: &[u8], list: usize) -> Opened {
-    let refused = |number| Opened { number, cursor: Cursor::NOTHING_AHEAD, ..Opened::default() };
+    let refused = |Refused { number, position }| {
+        let cursor = Cursor::NOTHING_AHEAD;
+        Opened { number, cursor, position, ..Opened::default() }
+    };
     if !(1..=LISTS).contains(&list) {
-        return refused(4);
+        return refused(4.into());
     }
     let layout = match layout(payload) {
         Ok(layout) => layout,
-        Err(number) => return refused(number),
+        Err(why) => return refused(why),
     };
     let names = layout.lists[list - 1];
     let cursor = if names.len == 0 { Cursor::NOTHING_AHEAD } else { Cursor { at: names.start, end: names.end() } };
-    Opened { number: 0, cookie: COOKIE, follows: layout.follows, reserved: layout.reserved, cursor }
+    Opened { number: 0, cookie: COOKIE, follows: layout.follows, reserved: layout.reserved, cursor, position: 0 }
 }
 
 /// Yields the name at the cursor, or the end. It stays at a bad name, as it stays at the end.

@@ -45,6 +45,31 @@ impl Written {
     }
 }
 
+/// Why a payload is refused, and where it breaks: 0 where the number is neither 12 nor 13 (SPECIFICATION 2.7).
+#[derive(Clone, Copy)]
+pub(crate) struct Refused {
+    pub(crate) number: u8,
+    pub(crate) position: usize,
+}
+
+impl From<u8> for Refused {
+    fn from(number: u8) -> Self {
+        Refused { number, position: 0 }
+    }
+}
+
+impl Refused {
+    /// The field that begins here ends behind the payload.
+    pub(crate) fn cut(position: usize) -> Self {
+        Refused { number: 12, position }
+    }
+
+    /// The last field ends here, and the payload does not.
+    pub(crate) fn left_over(position: usize) -> Self {
+        Refused { number: 13, position }
+    }
+}
+
 /// The body of the string that begins at `at`, or none where it or its four length bytes pass the end.
 ///
 /// The length is held against what is left: adding 4 to it could wrap.

@@ -71,15 +71,15 @@ fn kexinit_and_its_view() {
     let cookie = &cookie[2..];
     let expected = [
         "0 end",
-        "12 0:- 0 0",
+        "12 0:- 0 0 17",
         "0 end",
-        &format!("0 1:{cookie} 1 258"),
+        &format!("0 1:{cookie} 1 258 0"),
         "0 25:6162",
         "0 end",
         "0 28:63",
         "0 end",
         "0 end",
-        &format!("0 1:{cookie} 1 258"),
+        &format!("0 1:{cookie} 1 258 0"),
         "19 0:-",
         "19 0:-",
         "0 25:6162 28:63 end",
@@ -113,12 +113,12 @@ fn an_exchange_as_client_and_as_server() {
         "0 | ex 0.0.failed.0.0,0,0,0,0,0,0 k=".to_string(),
         "0 | ex 1.1.started.0.1,1,1,2,0,0,0 k=".to_string(),
         "0 37 out=1670:".to_string(),
-        format!("0 5:6b 10:{s} 46:73 | ex 1.1.reply.0.1,1,1,2,1,32,32 k="),
+        format!("0 5:6b 10:{s} 46:73 0 | ex 1.1.reply.0.1,1,1,2,1,32,32 k="),
         format!("0 134 {h} | ex 1.1.secret.0.1,1,1,2,1,32,32 k="),
         "0 36 out=71:".to_string(),
         "1 0 out=71:".to_string(),
         "0 | ex 2.1.started.0.1,1,1,2,0,0,0 k=".to_string(),
-        format!("0 5:{c} | ex 2.1.init.0.1,1,1,2,0,32,0 k="),
+        format!("0 5:{c} 0 | ex 2.1.init.0.1,1,1,2,0,32,0 k="),
         format!("0 134 {h} | ex 2.1.secret.0.1,1,1,2,1,32,32 k="),
         "0 47 36 out=5774:".to_string(),
     ];
@@ -147,38 +147,86 @@ fn an_exchange_as_client_and_as_server() {
     assert!(lines[10].contains(&format!("out=72:{}", digest(&k))));
 }
 
-/// The lines as they were when a landing was the last one: without the tokens that came later.
-fn without(lines: Vec<String>, later: &[&str]) -> Vec<String> {
-    let is_later =
-        |word: &&str| later.iter().any(|name| word.strip_prefix(name).is_some_and(|rest| rest.starts_with('=')));
-    lines.iter().map(|line| line.split(' ').filter(|word| !is_later(word)).collect::<Vec<_>>().join(" ")).collect()
+/// What answers have gained since a landing was the last one: tokens of the state, by their names, and the position, which has
+/// none and is the last ahead of the state. A landing that is not here is the last one.
+const LATER: [(&str, &[&str]); 3] =
+    [("sha2", &["h", "sid", "n", "position"]), ("keys", &["sid", "n", "position"]), ("rekeying", &["position"])];
+
+/// An answer as it was then.
+fn without(call: &str, answer: &str, later: &[&str]) -> String {
+    let is_later = |word: &&str| word.split_once('=').is_some_and(|(name, _)| later.contains(&name));
+    let has_position = matches!(call.split(' ').next(), Some("open" | "init" | "reply"));
+    let mut words: Vec<&str> = answer.split(' ').filter(|word| !is_later(word)).collect();
+    if has_position && later.contains(&"position") {
+        words.remove(words.iter().position(|word| *word == "|").unwrap_or(words.len()) - 1);
+    }
+    words.join(" ")
 }
 
-/// The answers to a script of the time when the session identifier was H: where it writes over H, the identifier is
-/// written over with it.
-fn with_h_for_identifier(script: &str) -> Vec<String> {
-    let (mut lines, mut is_its_own) = (String::new(), vec![]);
-    for line in script.lines().filter(|line| !line.starts_with('#')) {
-        let byte = line.strip_prefix("set h").map(|rest| format!("set s{rest}\n"));
-        let also = byte.or_else(|| line.strip_prefix("put h ").map(|rest| format!("put sid {rest}\n")));
-        is_its_own.extend([Some(true), also.as_ref().map(|_| false)].into_iter().flatten());
-        lines += &format!("{line}\n{}", also.unwrap_or_default());
-    }
-    assert!(is_its_own.contains(&false));
-    answers(&lines).into_iter().zip(is_its_own).filter_map(|(answer, its_own)| its_own.then_some(answer)).collect()
+/// What is written over with a line of the time when the session identifier was H: where it writes over H, the identifier.
+fn with_h_for_identifier(line: &str) -> Option<String> {
+    let byte = line.strip_prefix("set h").map(|rest| format!("set s{rest}"));
+    byte.or_else(|| line.strip_prefix("put h ").map(|rest| format!("put sid {rest}")))
 }
 
 #[test]
 fn examples_of_the_landings() {
-    let sha2 = include_str!("../../../tests/examples/sha2.script");
-    let keys = include_str!("../../../tests/examples/keys.script");
-    let rekeying = include_str!("../../../tests/examples/rekeying.script");
-    let lines = |text: &str| text.lines().map(str::to_string).collect::<Vec<_>>();
-    let gained = ["h", "sid", "n"];
-    assert_eq!(without(answers(sha2), &gained), lines(include_str!("../../../tests/examples/sha2.answers")));
-    let of_keys = without(with_h_for_identifier(keys), &gained[1..]);
-    assert_eq!(of_keys, lines(include_str!("../../../tests/examples/keys.answers")));
-    assert_eq!(answers(rekeying), lines(include_str!("../../../tests/examples/rekeying.answers")));
+    let folder = concat!(env!("CARGO_MANIFEST_DIR"), "/../../tests/examples");
+    let mut seen = vec![];
+    for entry in std::fs::read_dir(folder).unwrap() {
+        let path = entry.unwrap().path();
+        if path.extension().is_none_or(|extension| extension != "script") {
+            continue;
+        }
+        let name = path.file_stem().unwrap().to_str().unwrap().to_string();
+        let script = std::fs::read_to_string(&path).unwrap();
+        let want = std::fs::read_to_string(path.with_extension("answers")).unwrap();
+        let later = LATER.iter().find(|of| of.0 == name).map_or(&[][..], |of| of.1);
+        let calls: Vec<&str> = script.lines().filter(|line| !line.is_empty() && !line.starts_with('#')).collect();
+        let (mut lines, mut is_its_own) = (String::new(), vec![]);
+        for call in &calls {
+            lines += &format!("{call}\n");
+            is_its_own.push(true);
+            // only a landing ahead of rekeying is without the identifier
+            if let Some(also) = with_h_for_identifier(call).filter(|_| later.contains(&"sid")) {
+                lines += &format!("{also}\n");
+                is_its_own.push(false);
+            }
+        }
+        let have =
+            answers(&lines).into_iter().zip(is_its_own).filter_map(|(answer, its_own)| its_own.then_some(answer));
+        let have: Vec<String> = have.zip(calls).map(|(answer, call)| without(call, &answer, later)).collect();
+        assert_eq!(have, want.lines().collect::<Vec<_>>(), "{name}");
+        seen.push(name);
+    }
+    assert!(LATER.iter().all(|of| seen.iter().any(|name| name == of.0)), "{seen:?}");
+}
+
+#[test]
+fn positions_in_their_lines() {
+    let begin = "room 00*14156\nstart 2 1 61 62 14 14\n";
+    let c = "07".repeat(32);
+    let init = |payload: &str| brief(&format!("{begin}init {payload}"))[2].split(" | ").next().unwrap().to_string();
+    assert_eq!(init("-"), "10 0:- 0");
+    assert_eq!(init("1e"), "12 0:- 1");
+    assert_eq!(init("1e00000020"), "12 0:- 1");
+    assert_eq!(init(&format!("1e00000020{c}")), format!("0 5:{c} 0"));
+    assert_eq!(init(&format!("1e00000020{c}00")), "13 0:- 37");
+    assert_eq!(init("1e0000000107"), "14 0:- 0");
+    // not due
+    let lines = brief("init 1e\nreply 1f");
+    assert!(lines[0].starts_with("1 0:- 0 | ex") && lines[1].starts_with("1 0:- 0:- 0:- 0 | ex"));
+    let begin = "room 00*14156\nstart 1 1 61 62 14 14\nownc 07*32 00*1670\n";
+    let reply = |payload: &str| brief(&format!("{begin}reply {payload}"))[3].split(" | ").next().unwrap().to_string();
+    assert_eq!(reply("1f000000016b000000"), "12 0:- 0:- 0:- 6");
+    assert_eq!(reply(&format!("1f000000016b00000020{c}00")), "12 0:- 0:- 0:- 42");
+    assert_eq!(reply(&format!("1f000000016b00000020{c}000000017300")), "13 0:- 0:- 0:- 47");
+    assert_eq!(reply(&format!("1f000000016b00000020{c}0000000173")), format!("0 5:6b 10:{c} 46:73 0"));
+    // a short room, and what no list has, ahead of the payload
+    let short = "room 00*14156\nstart 2 1 61 62 14 14\nroom 00*14155\ninit 1e\nopen 14 11\nopen 14 10\nnames 14 1\n";
+    let lines = brief(short);
+    assert!(lines[3].starts_with("3 0:- 0 | ex 2.1.started."));
+    assert_eq!(lines[4..], ["4 0:- 0 0 0", "12 0:- 0 0 1", "12 end"]);
 }
 
 #[test]
@@ -317,9 +365,9 @@ fn forged_records() {
         [
             format!("0 | {started}"),
             "0 | ex 2.1.failed.7.1,1,1,1,0,0,0".to_string(),
-            "1 0:- | ex 2.1.failed.7.1,1,1,1,0,0,0".to_string(),
+            "1 0:- 0 | ex 2.1.failed.7.1,1,1,1,0,0,0".to_string(),
             format!("0 | {started}"),
-            format!("0 {part} | ex 2.1.init.0.1,1,1,1,0,32,0"),
+            format!("0 {part} 0 | ex 2.1.init.0.1,1,1,1,0,32,0"),
         ]
     );
     let lines = brief(&format!(
@@ -330,14 +378,14 @@ fn forged_records() {
         lines[2..],
         [
             "0 | ex 2.1.started.0.1,1,1,18446744073709551615,0,0,0".to_string(),
-            "1 0:- | ex 2.1.started.0.1,1,1,18446744073709551615,0,0,0".to_string(),
+            "1 0:- 0 | ex 2.1.started.0.1,1,1,18446744073709551615,0,0,0".to_string(),
             format!("0 | {started}"),
             "0 | ex 3.1.started.0.1,1,1,1,0,0,0".to_string(),
-            "1 0:- | ex 3.1.started.0.1,1,1,1,0,0,0".to_string(),
+            "1 0:- 0 | ex 3.1.started.0.1,1,1,1,0,0,0".to_string(),
             format!("0 | {started}"),
             format!("0 | {started}"),
             format!("0 | {started}"),
-            "12 0:- | ex 2.1.failed.12.0,0,0,0,0,0,0".to_string(),
+            "12 0:- 1 | ex 2.1.failed.12.0,0,0,0,0,0,0".to_string(),
         ]
     );
 }

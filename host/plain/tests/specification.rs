@@ -158,7 +158,7 @@ fn reply_cut_in_its_third_length() {
     let cut = &whole[..whole.len() - 9 - 2];
     assert_eq!(reply_parts(&e, &room, cut), [NOTHING; 3]);
     let answer = read_reply(e, &mut room, cut);
-    assert_eq!(answer.number, 12);
+    assert_eq!((answer.number, answer.position), (12, whole.len() - 9 - 4));
     let failed = Exchange { role: CLIENT, method: 4, stage: Stage::Failed(12), ..Exchange::default() };
     assert_eq!(answer.exchange, failed);
     assert!(room.iter().all(|&byte| byte == 0));
@@ -281,15 +281,23 @@ fn kexinit_of_ten_empty_lists() {
     assert_eq!(opened.cookie, Part { start: 1, len: 16 });
     assert_eq!(opened.cursor, Cursor { at: 1, end: 0 });
     let refused = |number| Opened { number, cursor: Cursor { at: 1, end: 0 }, ..Opened::default() };
-    assert_eq!(open_list(&out[..61], 1), refused(12));
-    assert_eq!(open_list(&out[..63], 1), refused(13));
+    let broken = |number, position| Opened { position, ..refused(number) };
+    assert_eq!(open_list(&out[..61], 1), broken(12, 58));
+    assert_eq!(open_list(&out[..63], 1), broken(13, 62));
     assert_eq!(open_list(&out[..62], 0), refused(4));
     assert_eq!(open_list(&[], 11), refused(4));
     assert_eq!(open_list(&[], 1), refused(10));
     assert_eq!(open_list(&[20; 4097], 1), refused(10));
     assert_eq!(open_list(&[21], 1), refused(11));
     for cut in 1..62 {
-        assert_eq!(open_list(&out[..cut], 1), refused(12));
+        // the cookie, ten strings without a body, the boolean and the reserved number
+        let position = match cut {
+            ..17 => 1,
+            17..57 => 17 + (cut - 17) / 4 * 4,
+            57 => 57,
+            _ => 58,
+        };
+        assert_eq!(open_list(&out[..cut], 1), broken(12, position));
     }
 }
 
@@ -896,6 +904,7 @@ fn no_record_and_no_payload_makes_a_step_panic() {
             _ => again(e, any.below(11) as u8, I_C, &vec![20; odd(&mut any, 4096).min(4097)], &mut room),
         };
         seen[usize::from(answer.number)] += 1;
+        assert_eq!(answer.position != 0, matches!(answer.number, 12 | 13));
         if answer.number != 0 {
             assert_eq!((answer.count, answer.second, answer.h), (0, 0, [0; H]));
             assert!(out.iter().chain(&k_out).all(|&byte| byte == 1));

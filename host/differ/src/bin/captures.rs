@@ -1,13 +1,11 @@
 //! Every captured exchange through the boundary: HELP says how. Of the primitives' outputs X and K_PQ alone are handed in.
 use castulfrisa::{choose, open_list, raw, same_version, write_kexinit, EXCHANGE, H_SIZE, INIT, REPLY, ROOM};
 use castulfrisa::{Classical, Client, Greeting, Kem, Key, Letter, List, Method, Own, Refusal, Role, Server, Stopped, K, KEY_MOST};
+use differ::captured::{self, Capture};
 use differ::command::{words, wrong};
 use differ::lists::PartEntry;
 use differ::stored::bytes_of;
 use plain::Stage;
-use std::collections::HashMap;
-use std::path::Path;
-use std::fs;
 use std::process::ExitCode;
 
 const HELP: &str = "\
@@ -21,29 +19,6 @@ called wrongly.
 
 /// What lent buffers are filled with.
 const LENT: u8 = 0xee;
-
-struct Capture(HashMap<String, String>);
-
-impl Capture {
-    fn read(path: &Path) -> Result<Capture, String> {
-        let text = fs::read_to_string(path).map_err(|e| e.to_string())?;
-        let pairs = text.lines().filter_map(|l| l.split_once(' '));
-        Ok(Capture(pairs.map(|(k, v)| (k.into(), v.into())).collect()))
-    }
-
-    fn word(&self, field: &str) -> Result<&str, String> {
-        self.0.get(field).map(|s| &s[..]).ok_or(format!("no field {}", field))
-    }
-
-    fn bytes(&self, field: &str) -> Result<Vec<u8>, String> {
-        let s = self.word(field)?;
-        if s == "-" {
-            return Ok(Vec::new());
-        }
-        let digit = |i: usize| u8::from_str_radix(s.get(i..i + 2).unwrap_or("?"), 16).map_err(|_| format!("{}: bad hex", field));
-        (0..s.len()).step_by(2).map(digit).collect()
-    }
-}
 
 fn held(what: &str, have: &[u8], want: &[u8]) -> Result<(), String> {
     if have == want {
@@ -210,6 +185,7 @@ fn stepped(c: &Capture, role: Role, method: Method, room: usize) -> Result<(), S
         let (before, mut parts) = (s.exchange, raw::Reply::default());
         let n = raw::read_reply(&mut s.exchange, &mut s.room, &reply, &mut parts);
         s.after("REPLY", n, Stage::Reply, ALL, b"", b"")?;
+        counted("REPLY's position", parts.position, 0)?;
         let asks: [(&str, PartEntry, raw::Part, &[u8]); 3] = [
             ("K_S of REPLY", raw::reply_host_key, parts.host_key, &ks),
             ("S of REPLY", raw::reply_s, parts.s, &value_s),
@@ -233,11 +209,12 @@ fn stepped(c: &Capture, role: Role, method: Method, room: usize) -> Result<(), S
         s.after("verdict", n, Stage::Complete, ALL, &k, &digest)?;
         counted("K", count, k.len())?;
     } else {
-        let (before, mut told) = (s.exchange, raw::Part::default());
+        let (before, mut told) = (s.exchange, raw::Init::default());
         let n = raw::read_init(&mut s.exchange, &mut s.room, &init, &mut told);
         s.after("INIT", n, Stage::Init, AND_C, b"", b"")?;
-        is_field("C of INIT", &init, told, &value_c)?;
-        for (exchange, want) in [(&before, Some(told)), (&s.exchange, None)] {
+        counted("INIT's position", told.position, 0)?;
+        is_field("C of INIT", &init, told.c, &value_c)?;
+        for (exchange, want) in [(&before, Some(told.c)), (&s.exchange, None)] {
             let mut part = raw::Part::default();
             let n = raw::init_c(exchange, &s.room, &init, &mut part);
             asked("C of INIT", n, part, want)?;
@@ -352,26 +329,24 @@ fn main() -> ExitCode {
         eprintln!("captures: the library is of another version");
         return ExitCode::FAILURE;
     }
-    let mut paths: Vec<_> = match fs::read_dir(folder) {
-        Ok(entries) => entries.filter_map(|e| e.ok()).map(|e| e.path()).filter(|p| p.extension().is_some_and(|x| x == "txt")).collect(),
-        Err(e) => {
-            eprintln!("captures: {}: {}", folder, e);
+    let captures = match captured::all(folder) {
+        Ok(captures) => captures,
+        Err(why) => {
+            eprintln!("captures: {}", why);
             return ExitCode::FAILURE;
         }
     };
-    paths.sort();
-    for path in &paths {
-        let name = path.file_stem().unwrap_or_default().to_string_lossy();
-        match Capture::read(path).and_then(|c| run(&c)) {
-            Ok(said) => println!("{}: {}", name, said),
+    for capture in &captures {
+        match run(capture) {
+            Ok(said) => println!("{}: {}", capture.name, said),
             Err(why) => {
-                eprintln!("captures: {}: {}", name, why);
+                eprintln!("captures: {}: {}", capture.name, why);
                 return ExitCode::FAILURE;
             }
         }
     }
-    println!("{} captured exchanges as they were, in both roles", paths.len());
-    if paths.len() < 18 {
+    println!("{} captured exchanges as they were, in both roles", captures.len());
+    if captures.len() < 18 {
         eprintln!("captures: fewer than the eighteen that there are");
         return ExitCode::FAILURE;
     }

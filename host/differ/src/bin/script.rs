@@ -1,6 +1,6 @@
 //! Random calls as a bench script, for the bench and for any other program that answers one.
 use differ::calls::{self, Call, Field, Filled};
-use differ::codecs::{encoded, hex, integer, list_number, output, payload, ten};
+use differ::codecs::{encoded, hex, integer, list_number, opened, output, payload, ten};
 use differ::command::{words, wrong};
 use differ::hashes;
 use differ::model::Side;
@@ -122,7 +122,7 @@ fn round(r: &mut Random, out: &mut impl Write) -> io::Result<()> {
     writeln!(out, "rmpint {}", h(&encoded(r, &number)))?;
     writeln!(out, "wmpint {} {}", h(&number), h(&output(r, 4 + number.len())))?;
     let list = list_number(r);
-    writeln!(out, "open {} {}", h(&payload(r)), list)?;
+    writeln!(out, "open {} {}", h(&opened(r)), list)?;
     for _ in 0..r.below(5) {
         writeln!(out, "next")?;
     }

@@ -57,7 +57,7 @@ fn fed(method: u8) -> Fed {
 }
 
 fn on_core(f: &Fed, room: &mut [u8]) -> Done {
-    let (mut exchange, mut c, mut count, mut h) = ([0; EXCHANGE], raw::Part::default(), 0, [0; H_SIZE]);
+    let (mut exchange, mut c, mut count, mut h) = ([0; EXCHANGE], raw::Init::default(), 0, [0; H_SIZE]);
     raw::start(&mut exchange, 2, f.method.into(), &f.v, &f.v, &f.i, &f.i, room);
     raw::read_init(&mut exchange, room, &f.init, &mut c);
     let kem = if f.k_pq.is_empty() { 0 } else { 2 };

@@ -11,7 +11,7 @@ use std::process::ExitCode;
 use plain::{
     again, choose, derive, hash_start, init_c, next_name, open_list, own_c, read_init, read_mpint, read_reply,
     read_string, reply_parts, sign, start, take_secret, verdict, write_kexinit, write_mpint, write_string, Answer,
-    Classical, Cursor, Exchange, Hash, Kem, Part, Session, Stage, Written,
+    Classical, Cursor, Exchange, Hash, Kem, Opened, Part, Session, Stage, Written,
 };
 
 const HELP: &str = "\
@@ -127,7 +127,8 @@ impl Bench {
                 let cookie = part(&payload, opened.cookie);
                 self.view = payload;
                 self.cursor = opened.cursor;
-                Ok(format!("{} {cookie} {} {}", opened.number, u8::from(opened.follows), opened.reserved))
+                let Opened { number, follows, reserved, position, .. } = opened;
+                Ok(format!("{number} {cookie} {} {reserved} {position}", u8::from(follows)))
             }
             ["next"] => {
                 let next = next_name(&self.view, self.cursor);
@@ -248,7 +249,7 @@ impl Bench {
                 let c = init_c(&self.exchange, &self.room, &payload);
                 let answer = read_init(self.exchange, &mut self.room, &payload);
                 self.keep(&answer);
-                Ok(format!("{} {}", answer.number, part(&payload, c)))
+                Ok(format!("{} {} {}", answer.number, part(&payload, c), answer.position))
             }
             ["reply", payload] => {
                 let payload = bytes(payload)?;
@@ -256,7 +257,7 @@ impl Bench {
                 let answer = read_reply(self.exchange, &mut self.room, &payload);
                 self.keep(&answer);
                 let [k_s, s, signature] = parts.map(|of| part(&payload, of));
-                Ok(format!("{} {k_s} {s} {signature}", answer.number))
+                Ok(format!("{} {k_s} {s} {signature} {}", answer.number, answer.position))
             }
             ["secret", outcome, x, kem, k_pq, ks, s] => {
                 let (outcome, x, kem, k_pq) = (classical(outcome)?, bytes(x)?, kem_outcome(kem)?, bytes(k_pq)?);
