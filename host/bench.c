@@ -159,7 +159,7 @@ static void keep(bytes *slot)
 
 static void put_number(uint64_t n) { printf("%" PRIu64, n); }
 
-/* A count, or a yes/no as 1 or 0. */
+/* A count, a position, or a yes/no as 1 or 0. */
 static void put_count(uint64_t n) { printf(" %" PRIu64, n); }
 
 static void put_hex(const uint8_t *at, size_t len)
@@ -354,6 +354,7 @@ static void call_open(char **t)
     put_part(o.cookie, view);
     put_count(o.follows);
     put_count(o.reserved);
+    put_count(o.position);
 }
 
 static void call_next(char **t)
@@ -556,12 +557,13 @@ static void call_init(char **t)
 {
     bytes p = lend(t[1]);
     LEND(castulfrisa_part, asked);
-    LEND(castulfrisa_part, c);
+    LEND(castulfrisa_init, told);
     uint64_t n = castulfrisa_init_c(handed(), CASTULFRISA_EXCHANGE, room.at, room.len, p.at, p.len, &asked);
-    uint64_t step = castulfrisa_read_init(handed(), CASTULFRISA_EXCHANGE, room.at, room.len, p.at, p.len, &c);
-    same(n, asked, step, c);
+    uint64_t step = castulfrisa_read_init(handed(), CASTULFRISA_EXCHANGE, room.at, room.len, p.at, p.len, &told);
+    same(n, asked, step, told.c);
     put_step(step);
-    put_part(c, p);
+    put_part(told.c, p);
+    put_count(told.position);
 }
 
 static void call_reply(char **t)
@@ -580,6 +582,7 @@ static void call_reply(char **t)
     put_part(r.host_key, p);
     put_part(r.s, p);
     put_part(r.signature, p);
+    put_count(r.position);
 }
 
 static void call_secret(char **t)

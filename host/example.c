@@ -165,12 +165,12 @@ static int server_answers(struct side *a, int first)
 {
     uint8_t s[32], signature[64], blob[128];
     uint64_t blob_len;
-    castulfrisa_part c;
+    castulfrisa_init told;
     castulfrisa_signed counts;
     uint64_t number;
     if (!start(a, CASTULFRISA_SERVER, first) || !draw(&a->own, "X25519", s)
-        || !accepted("read_init", castulfrisa_read_init(EXCHANGE(a), ROOM(a), init.bytes, init.len, &c))
-        || !take_secret(a, init.bytes + c.start, c.len, known, known_len, s, sizeof s)
+        || !accepted("read_init", castulfrisa_read_init(EXCHANGE(a), ROOM(a), init.bytes, init.len, &told))
+        || !take_secret(a, init.bytes + told.c.start, told.c.len, known, known_len, s, sizeof s)
         || !sign(a->h, signature) || !write_blob(blob, sizeof blob, signature, sizeof signature, &blob_len)) return 0;
     number = castulfrisa_sign(EXCHANGE(a), ROOM(a), blob, blob_len, reply.bytes, sizeof reply.bytes, a->k, sizeof a->k, &counts);
     castulfrisa_wipe_stack();

@@ -1,7 +1,7 @@
 #!/usr/bin/env python3
-"""The bench as a program: the specification's worked examples, hashes, keys and the captured exchanges through it, one by one and one behind another
-in a session, each answer computed here, with Python's own SHA-2; published keys; the landings' examples (tests/examples); and what it does with
-lines that are none.
+"""The bench as a program: the specification's worked examples, payloads that break at every place, hashes, keys and the captured exchanges through it,
+one by one and one behind another in a session, each answer computed here, with Python's own SHA-2; published keys; the landings' examples
+(tests/examples); and what it does with lines that are none.
 
 usage: bench_test.py BENCH      (a program, or a command of several words: what runs it, and the program)
 
@@ -232,9 +232,9 @@ def codecs():
 
 def kexinits():
     """KEXINIT with ten empty lists: 61, 62 and 63 bytes, and its writer; then the cases of kexinit_cases."""
-    yield 'open 14' + '00' * 60 + ' 1', '12 0:- 0 0'
-    yield 'open 14' + '00' * 61 + ' 1', '0 1:' + '00' * 16 + ' 0 0'
-    yield 'open 14' + '00' * 62 + ' 1', '13 0:- 0 0'
+    yield 'open 14' + '00' * 60 + ' 1', '12 0:- 0 0 58'
+    yield 'open 14' + '00' * 61 + ' 1', '0 1:' + '00' * 16 + ' 0 0 0'
+    yield 'open 14' + '00' * 62 + ' 1', '13 0:- 0 0 62'
     yield 'wkex ' + '00' * 16 + ' - - - - - - - - - - 0 0 00*62', '0 62 ' + out(b'\x14' + bytes(61))
     yield from kexinit_cases(out)
 
@@ -263,10 +263,11 @@ def exchanges():
     for n in (31, 33):
         payload = h(bytes([30]) + string(bytes(n)))
         yield [room, 'start 2 1 61 62 14 14', f'init {payload}', f'init {payload}'], [
-            '0', '0', f'14 0:- | ex 2.1.failed.14.0,0,0,0,0,0,0{kept()} room={digest(bytes(14156))}', '1 0:-']
+            '0', '0', f'14 0:- 0 | ex 2.1.failed.14.0,0,0,0,0,0,0{kept()} room={digest(bytes(14156))}', '1 0:- 0 |']
     # REPLY cut in its third length
-    cut = h(bytes([31]) + string(b'k') + string(bytes(32)) + bytes(3))
-    yield [room, 'start 1 1 61 62 14 14', f'ownc {"00" * 32} 00*1670', f'reply {cut}'], ['0', '0', '0 37', '12 0:- 0:- 0:-']
+    ahead = bytes([31]) + string(b'k') + string(bytes(32))
+    yield [room, 'start 1 1 61 62 14 14', f'ownc {"00" * 32} 00*1670', f'reply {h(ahead + bytes(3))}'], [
+        '0', '0', '0 37', f'12 0:- 0:- 0:- {len(ahead)} | ex 1.1.failed.12.']
     # an exchange that was written to: a length that no exchange has, also one that its bytes cannot hold, is shown, refused by every step
     # and kept; it is forgotten when it is set anew, at start and at blank
     begin, init = 'start 2 1 61 62 14 14', f'init {h(bytes([30]) + string(bytes(32)))}'
@@ -274,9 +275,9 @@ def exchanges():
     for n in (4097, 65535, 65536, 65537, 2**32 + 1, 2**64 - 1):
         forged = f' | ex 2.1.started.0.1,1,{n},1,0,0,0'
         yield [room, begin, f'set l2 {n}', 'init 1e', 'secret F - a - - -', 'set l2 1', init], [
-            '0', whole, '0' + forged, '1 0:-' + forged, f'1 0 {ZEROS}' + forged, whole, '0 5:']
+            '0', whole, '0' + forged, '1 0:- 0' + forged, f'1 0 {ZEROS}' + forged, whole, '0 5:']
         yield [room, begin, f'set l2 {n}', init, begin, init, f'set l6 {n}', 'blank'], [
-            '0', whole, '0' + forged, '1 0:-' + forged, whole, '0 5:', f'0 | ex 2.1.init.0.1,1,1,1,0,32,{n}', zeros]
+            '0', whole, '0' + forged, '1 0:- 0' + forged, whole, '0 5:', f'0 | ex 2.1.init.0.1,1,1,1,0,32,{n}', zeros]
     yield ['blank', 'set fail 9'], ['0 | ex 0.0.failed.0.', '0 | ex 0.0.failed.9.']
     # a fault behind the secret step and any start leave neither K nor H, and no key; a start leaves no session either
     none = f'{kept()} room='
@@ -289,6 +290,64 @@ def exchanges():
         *done[:4], '0 | ex 1.1.secret.', f'18 0 {out(bytes(71))} | ex 1.1.failed.18.0,0,0,0,0,0,0{none}{digest(bytes(14156))}', f'{no_key}1.1.failed.18.']
     yield secret + [sign, key, begin, key], [*done, f'{whole}{none}', f'{no_key}2.1.started.0.1,1,1,1,0,0,0{none}']
     yield secret + [sign, key, 'start 2 0 61 62 14 14', key], [*done, f'2 | ex 0.0.failed.2.0,0,0,0,0,0,0{none}', f'{no_key}0.0.failed.2.']
+
+
+# ---- where a payload breaks
+
+def broken(payload, message, strings):
+    """Number and position of a payload that is to be a message of so many strings, as far as 10 to 13 go: SPECIFICATION 2.7, 7.3."""
+    if not 1 <= len(payload) <= 32768:
+        return 10, 0
+    if payload[0] != message:
+        return 11, 0
+    at = 1
+    for _ in range(strings):
+        size = payload[at:at + 4]
+        if len(size) < 4 or at + 4 + int.from_bytes(size, 'big') > len(payload):
+            return 12, at
+        at += 4 + int.from_bytes(size, 'big')
+    return (13, at) if at < len(payload) else (0, 0)
+
+
+def spoiled(payload, strings):
+    """A message of so many strings cut everywhere, with bytes left over, with each length too long, and as another message."""
+    yield from (payload[:size] for size in range(len(payload)))
+    yield from (payload + bytes(more) for more in (1, 2, 300, 32768 - len(payload), 32769 - len(payload)))
+    at = 1
+    for _ in range(strings):
+        size = int.from_bytes(payload[at:at + 4], 'big')
+        left = len(payload) - at - 4  # behind the length bytes: with all of it the next string begins where the payload ends
+        for length in {size + 1, size + 4, left, left + 1, size + 2**31, 2**32 - 5, 2**32 - 4, 2**32 - 1} - {size}:
+            yield payload[:at] + length.to_bytes(4, 'big') + payload[at + 4:]
+        at += 4 + size
+    yield from (bytes([payload[0] ^ 1]) + payload[1:size] for size in (1, 3, len(payload)))
+
+
+def positions():
+    """INIT and REPLY that break, each in an exchange of its own; then answers that have no position: 14, 15, 3, 0 and 1."""
+    for method in (1, 4, 8):
+        c, s = (b'\4' * size for size in METHODS[method][3:])
+        kem = 1568 if method == 8 else 0
+        init, reply = bytes([30]) + string(c), bytes([31]) + string(b'host key') + string(s) + string(b'sig')
+        messages = [('init', 2, init, 1, 1, f' 5:{h(c)}'), ('reply', 1, reply, 3, 13, f' 5:{h(b"host key")} 17:{h(s)} {21 + len(s)}:{h(b"sig")}')]
+        for call, role, payload, strings, value, told in messages:  # value: where the length bytes of C or S are
+            begin = [f'start {role} {method} 61 62 14 14', *([f'ownc {h(c)} 00*1670'] if role == 1 else [])]
+            none, size = ' 0:-' * strings, int.from_bytes(payload[value:value + 4], 'big')
+            lines, wants = ['room 00*14156'], ['0 |']
+
+            def fault(wrong, number, position=0):
+                lines.extend([*begin, f'{call} {h(wrong)}'])
+                wants.extend(['0'] * len(begin) + [f'{number}{none} {position} | ex {role}.{method}.failed.{number}.0,0,0,0,0,0,0'])
+
+            for wrong in spoiled(payload, strings):
+                if len(wrong) <= 200 or len(payload) - len(wrong) < 20:  # of a hybrid's value not every cut
+                    fault(wrong, *broken(wrong, payload[0], strings))
+            fault(payload[:value] + (size + 1).to_bytes(4, 'big') + b'\4' + payload[value + 4:], 14)
+            if method != 1:
+                fault(payload[:value + 4 + kem] + b'\5' + payload[value + 5 + kem:], 15)
+            lines += [*begin, 'room 00*14155', f'{call} {h(payload[:3])}', 'room 00*14156', f'{call} {h(payload)}', f'{call} {h(payload[:3])}']
+            wants += ['0'] * len(begin) + ['0', f'3{none} 0 |', '0', f'0{told} 0 |', f'1{none} 0 |']
+            yield lines, wants
 
 
 HASHED = ('V_C', 'V_S', 'I_C', 'I_S', 'K_S', 'C', 'S')
@@ -359,12 +418,12 @@ def captured():
         yield done(1, start(1) + [f'ownc {h(f["C"])} 55*1670', f'reply {h(f["REPLY"])}', f'{secret} - -', 'verdict 1 1 55*75'], [
             '0', '0' + after(1, 'started', STARTED),
             f'0 {len(f["INIT"])} {out(lent(f["INIT"], 1670))}' + after(1, 'own_c', WITH_C),
-            '0' + ''.join(parts('K_S', 'S', 'signature')) + after(1, 'reply', HASHED),
+            '0' + ''.join(parts('K_S', 'S', 'signature')) + ' 0' + after(1, 'reply', HASHED),
             f'0 {hashed} {exchange_hash}' + after(1, 'secret', HASHED, k, f['H']),
             f'0 {len(k)} {out(k_out)}' + after(1, 'complete', HASHED, k, f['H'])])
         yield done(2, start(2) + [f'init {h(f["INIT"])}', f'{secret} {h(f["K_S"])} {h(f["S"])}', f'sign {h(f["signature"])} 55*5774 55*75'], [
             '0', '0' + after(2, 'started', STARTED),
-            '0' + ''.join(parts('C')) + after(2, 'init', WITH_C),
+            '0' + ''.join(parts('C')) + ' 0' + after(2, 'init', WITH_C),
             f'0 {hashed} {exchange_hash}' + after(2, 'secret', HASHED, k, f['H']),
             f'0 {len(f["REPLY"])} {len(k)} {out(lent(f["REPLY"], 5774))} {out(k_out)}' + after(2, 'complete', HASHED, k, f['H'])])
 
@@ -551,11 +610,11 @@ class Session:
             yield f'ownc {h(f["C"])} 55*1670', f'0 {len(f["INIT"])} {out(lent(f["INIT"], 1670))}', ('own_c', WITH_C)
             at = len(f['K_S']) + 5
             yield f'reply {h(f["REPLY"])}', (f'0 5:{h(f["K_S"])} {at + 4}:{h(f["S"])} '
-                                             f'{at + len(f["S"]) + 8}:{h(f["signature"])}'), ('reply', HASHED)
+                                             f'{at + len(f["S"]) + 8}:{h(f["signature"])} 0'), ('reply', HASHED)
             yield (f'{secret} - -', *taken)
             yield 'verdict 1 1 55*71', f'0 {len(f["K"])} {k_out}', done
         else:
-            yield f'init {h(f["INIT"])}', f'0 5:{h(f["C"])}', ('init', WITH_C)
+            yield f'init {h(f["INIT"])}', f'0 5:{h(f["C"])} 0', ('init', WITH_C)
             yield (f'{secret} {h(f["K_S"])} {h(f["S"])}', *taken)
             yield f'sign {h(f["signature"])} 55*5774 55*71', f'0 {len(f["REPLY"])} {len(f["K"])} {out(lent(f["REPLY"], 5774))} {k_out}', done
 
@@ -595,7 +654,7 @@ class Session:
             self.step(*next(self.steps()))
         self.room[:] = bytes(len(self.room))
         self.stage, self.names, self.k, self.h = 'failed.12', (), b'', b''
-        self.say(*(('reply 1f', '12 0:- 0:- 0:-') if self.role == 1 else ('init 1e', '12 0:-')))
+        self.say(*(('reply 1f', '12 0:- 0:- 0:- 1') if self.role == 1 else ('init 1e', '12 0:- 1')))
 
 
 def rekeyed():
@@ -635,7 +694,7 @@ def rekeyed():
         s.fault()
         s.no_key()
         s.refused('again 1 14 14')
-        s.refused('init 1e', rest=' 0:-')
+        s.refused('init 1e', rest=' 0:- 0')
         # and a start begins another session
         s.versions, s.identifier, s.count = None, b'', 0
         s.begin(methods[2], of[methods[2]])
@@ -645,10 +704,11 @@ def rekeyed():
 
 
 def refused_step(line):
-    """What a step answers behind its number where it is refused: no count, no part, H of zeros, outputs as they were lent."""
+    """What a step answers behind its number where it is refused as no peer's fault: no count, no part, no position, H of zeros, outputs as they
+    were lent."""
     call, *words = line.split(' ')
     outs = ' '.join(out(lent(b'', int(word[3:]))) for word in words if word.startswith('55*'))
-    return {'ownc': f' 0 {outs}', 'init': ' 0:-', 'reply': ' 0:- 0:- 0:-', 'secret': f' 0 {ZEROS}', 'sign': f' 0 0 {outs}', 'verdict': f' 0 {outs}'}[call]
+    return {'ownc': f' 0 {outs}', 'init': ' 0:- 0', 'reply': ' 0:- 0:- 0:- 0', 'secret': f' 0 {ZEROS}', 'sign': f' 0 0 {outs}', 'verdict': f' 0 {outs}'}[call]
 
 
 def forged_sessions():
@@ -735,7 +795,15 @@ def sessions():
 
 # ---- the landings' examples, as the bench answered when each was the last; what the state has gained since
 
-LATER = {'sha2': ['h', 'sid', 'n'], 'keys': ['sid', 'n'], 'rekeying': []}
+LATER = {'sha2': ['h', 'sid', 'n', 'position'], 'keys': ['sid', 'n', 'position'], 'rekeying': ['position'], 'positions': []}
+
+
+def as_then(line, answer, later):
+    """An answer without what came later: a state's tokens by their names, and the position, which has none and is the last ahead of the state."""
+    told, bar, state = answer.partition(' | ')
+    if 'position' in later and line.split(' ')[0] in ('open', 'init', 'reply'):
+        told = told.rpartition(' ')[0]
+    return told + bar + ' '.join(word for word in state.split(' ') if word.split('=')[0] not in later)
 
 
 def also(line):
@@ -754,10 +822,7 @@ def examples():
                 lines.insert(i + 1, also(lines[i]))
                 answers.insert(i + 1, answers[i])
 
-        def holds(answer, want, later=later):
-            return ' '.join(word for word in answer.split(' ') if word.split('=')[0] not in later) == want
-
-        yield lines, answers, holds
+        yield lines, answers, lambda line, answer, want, later=later: as_then(line, answer, later) == want
 
 
 BAD = [
@@ -783,14 +848,15 @@ def main():
             failed.append(f'{what}: {have!r}, not {want!r}')
 
     count = 0
-    steps = [(lines, wants, str.startswith) for lines, wants in [*secrets(), *hybrids(), *exchanges(), *captured(), *records(), *sessions()]]
-    whole = [(lines, wants, str.__eq__) for lines, wants in lists()]
+    in_steps = [*secrets(), *hybrids(), *exchanges(), *positions(), *captured(), *records(), *sessions()]
+    steps = [(lines, wants, lambda line, answer, want: answer.startswith(want)) for lines, wants in in_steps]
+    whole = [(lines, wants, lambda line, answer, want: answer == want) for lines, wants in lists()]
     for lines, wants, holds in steps + whole + list(examples()):
         status, answers, errors = said(bench, '\n'.join(lines) + '\n')
         held(lines[0], (status, len(answers), errors), (0, len(wants), []))
         for line, answer, want in zip(lines, answers, wants):
             count += 1
-            if not holds(answer, want):
+            if not holds(line, answer, want):
                 failed.append(f'{line[:80]}: {answer[:120]}, not {want[:120]}')
     for line in BAD:
         status, answers, errors = said(bench, f'# a comment\n\nrstr 00000000\n{line}\nrstr 00000000\n')

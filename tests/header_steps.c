@@ -152,7 +152,7 @@ static uint64_t own_c(side *a, uint64_t e, uint64_t r)
 
 static uint64_t read_init(side *a, uint64_t e, uint64_t r)
 {
-    return castulfrisa_read_init(a->exchange, e, a->room, r, init, init_len, (castulfrisa_part *)told);
+    return castulfrisa_read_init(a->exchange, e, a->room, r, init, init_len, (castulfrisa_init *)told);
 }
 
 static uint64_t read_reply(side *a, uint64_t e, uint64_t r)
@@ -212,7 +212,7 @@ static uint64_t again(side *a, uint64_t e, uint64_t r)
 /* Each, the step that must be due for it, and how many numbers it tells. For a key and for another beginning none is: every step must have been
    accepted. */
 static const struct { call make, due; size_t numbers; } calls[] = {
-    {own_c, own_c, 1}, {read_init, read_init, 2}, {read_reply, read_reply, 6}, {take_secret, take_secret, 1}, {sign, sign, 2},
+    {own_c, own_c, 1}, {read_init, read_init, 3}, {read_reply, read_reply, 7}, {take_secret, take_secret, 1}, {sign, sign, 2},
     {verdict, verdict, 1}, {init_c, read_init, 2}, {reply_host_key, read_reply, 2}, {reply_s, read_reply, 2},
     {reply_signature, read_reply, 2}, {derive, derive, 0}, {again, derive, 0}};
 
@@ -237,6 +237,14 @@ static int told_nothing(size_t numbers, int hands_h)
 {
     return all(told, 0, 8 * numbers) && numbers_told(numbers) && all(out, FILL, sizeof out) && all(k_out, FILL, sizeof k_out)
         && all(key, FILL, sizeof key) && all(h, hands_h ? 0 : FILL, CASTULFRISA_H_SIZE) && h[CASTULFRISA_H_SIZE] == FILL;
+}
+
+/* So many numbers were told, the last of them a position and the others 0. */
+static int told_position(size_t numbers, uint64_t position)
+{
+    int last = told[numbers - 1] == position;
+    told[numbers - 1] = 0;
+    return last && told_nothing(numbers, 0);
 }
 
 static int same_room(const side *a) { return memcmp(a->room, was.room, sizeof was.room) == 0; }
@@ -397,13 +405,15 @@ static void only(side *a, call due)
 
 /* A call on a copy of a side, `at`, that is a peer's fault: the room is zeros, of the exchange role, method and number are left and what it keeps of
    the session, outputs stay, and it has ended for good. */
-#define FAULT(a, role, numbers, number, made, what) FAULT_H(a, role, numbers, 0, number, made, what)
-#define FAULT_H(a, role, numbers, hands_h, number, made, what) do { \
+#define FAULT(a, role, numbers, number, made, what) FAULT_TOLD(a, role, told_nothing(numbers, 0), number, made, what)
+#define FAULT_H(a, role, numbers, hands_h, number, made, what) FAULT_TOLD(a, role, told_nothing(numbers, hands_h), number, made, what)
+#define FAULT_AT(a, role, numbers, position, number, made, what) FAULT_TOLD(a, role, told_position(numbers, position), number, made, what)
+#define FAULT_TOLD(a, role, as_due, number, made, what) do { \
     static side copy; \
     side *at = &copy; \
     copy = *(a); \
     before(at); \
-    is((made) == (number) && told_nothing(numbers, hands_h), what); \
+    is((made) == (number) && as_due, what); \
     faulted(at, role, number, what); } while (0)
 
 static void faulted(side *a, uint64_t role, uint64_t number, const char *what)
@@ -658,7 +668,7 @@ static void c_sent(side *a)
 
 static void reply_read(side *a)
 {
-    castulfrisa_reply r;
+    LEND(castulfrisa_reply, r);
     only(a, read_reply);
     before(a);
     is(reply_host_key(a, EX, ROOM) == 0 && told[0] == 5 && told[1] == ks_len && numbers_told(2), "K_S's place");
@@ -666,9 +676,10 @@ static void reply_read(side *a)
     is(reply_signature(a, EX, ROOM) == 0 && told[0] == 13 + ks_len + z.s_len && told[1] == signature_len && numbers_told(2),
        "the signature's place");
     is(same(a), "telling changes nothing");
-    is(castulfrisa_read_reply(a->exchange, EX, a->room, ROOM, reply, reply_len, &r) == 0, "REPLY read");
-    is(part_is(r.host_key, 5, ks_len) && part_is(r.s, 9 + ks_len, z.s_len), "the places of K_S and S with the step");
-    is(part_is(r.signature, 13 + ks_len + z.s_len, signature_len), "the signature's place with the step");
+    is(castulfrisa_read_reply(a->exchange, EX, a->room, ROOM, reply, reply_len, &r.told) == 0 && KEPT(r), "REPLY read");
+    is(part_is(r.told.host_key, 5, ks_len) && part_is(r.told.s, 9 + ks_len, z.s_len), "the places of K_S and S with the step");
+    is(part_is(r.told.signature, 13 + ks_len + z.s_len, signature_len), "the signature's place with the step");
+    is(r.told.position == 0, "no position in a REPLY that is one");
     is(state_is(a, CASTULFRISA_REPLY_READ, 0, CASTULFRISA_CLIENT, method), "the state behind REPLY");
     is(memcmp(a->room, hashed, hashed_len - k_len) == 0, "the fields ahead of K");
 }
@@ -693,11 +704,12 @@ static void verdict_given(side *a)
 
 static void init_read(side *a)
 {
-    castulfrisa_part p;
+    LEND(castulfrisa_init, r);
     only(a, read_init);
     before(a);
     is(init_c(a, EX, ROOM) == 0 && told[0] == 5 && told[1] == z.c_len && numbers_told(2) && same(a), "C's place, and nothing changed");
-    is(castulfrisa_read_init(a->exchange, EX, a->room, ROOM, init, init_len, &p) == 0 && part_is(p, 5, z.c_len), "INIT read");
+    is(castulfrisa_read_init(a->exchange, EX, a->room, ROOM, init, init_len, &r.told) == 0 && KEPT(r), "INIT read");
+    is(part_is(r.told.c, 5, z.c_len) && r.told.position == 0, "C's place with the step, and no position in an INIT that is one");
     is(state_is(a, CASTULFRISA_INIT_READ, 0, CASTULFRISA_SERVER, method), "the state behind INIT");
 }
 
@@ -966,8 +978,8 @@ static void peers_faults(void)
         if (i == LEAD) p[5 + z.c_classical] = 5;
         n = i == NONE ? 0 : i == LONG ? sizeof p : i == CUT ? init_len - 1 : i == MORE || i == LENGTH ? init_len + 1 : init_len;
         REFUSED(&server, 2, want[i], castulfrisa_init_c(server.exchange, EX, server.room, ROOM, p, n, part), "10 to 15, C told");
-        FAULT(&server, CASTULFRISA_SERVER, 2, want[i],
-              castulfrisa_read_init(at->exchange, EX, at->room, ROOM, p, n, part), "10 to 15, INIT");
+        FAULT_AT(&server, CASTULFRISA_SERVER, 3, i == CUT ? 1 : i == MORE ? init_len : 0, want[i],
+                 castulfrisa_read_init(at->exchange, EX, at->room, ROOM, p, n, (castulfrisa_init *)told), "10 to 15, INIT");
     }
     for (i = 0; i < COUNT(want); i++) {
         memset(p, 0, sizeof p);
@@ -983,9 +995,56 @@ static void peers_faults(void)
         REFUSED(&client, 2, want[i], castulfrisa_reply_s(client.exchange, EX, client.room, ROOM, p, n, part), "10 to 15, S told");
         REFUSED(&client, 2, want[i], castulfrisa_reply_signature(client.exchange, EX, client.room, ROOM, p, n, part),
                 "10 to 15, the signature told");
-        FAULT(&client, CASTULFRISA_CLIENT, 6, want[i],
-              castulfrisa_read_reply(at->exchange, EX, at->room, ROOM, p, n, (castulfrisa_reply *)told), "10 to 15, REPLY");
+        FAULT_AT(&client, CASTULFRISA_CLIENT, 7, i == CUT ? s_at + 4 + z.s_len : i == MORE ? reply_len : 0, want[i],
+                 castulfrisa_read_reply(at->exchange, EX, at->room, ROOM, p, n, (castulfrisa_reply *)told), "10 to 15, REPLY");
     }
+}
+
+static uint64_t init_of(side *a, const uint8_t *p, uint64_t n)
+{
+    return castulfrisa_read_init(a->exchange, EX, a->room, ROOM, p, n, (castulfrisa_init *)told);
+}
+
+static uint64_t reply_of(side *a, const uint8_t *p, uint64_t n)
+{
+    return castulfrisa_read_reply(a->exchange, EX, a->room, ROOM, p, n, (castulfrisa_reply *)told);
+}
+
+/* A message of so many fields cut everywhere, but of a hybrid's value only here and there, whole, and with one byte too many. begins: where its fields
+   do, and behind the last the message's own end. */
+static void broken(const side *a, uint64_t role, uint64_t (*read)(side *a, const uint8_t *p, uint64_t n), const uint8_t *message,
+                   const uint64_t *begins, const char *const *names, size_t fields)
+{
+    static uint8_t p[CASTULFRISA_REPLY + 1];
+    static side copy;
+    const uint64_t len = begins[fields];
+    uint64_t n, number;
+    size_t f, numbers = 2 * fields + 1;
+    memset(p, 0, sizeof p);
+    memcpy(p, message, len);
+    for (n = 0; n <= len + 1; n += n > 200 && n + 150 < len ? 113 : 1) {
+        for (f = 0; f < fields && begins[f + 1] <= n; f++) {} /* the first that passes the end, if there is one */
+        number = n == 0 ? CASTULFRISA_PAYLOAD_SIZE : f < fields ? CASTULFRISA_PAST_END : n == len ? CASTULFRISA_OK : CASTULFRISA_LEFT_OVER;
+        copy = *a;
+        before(&copy);
+        is(read(&copy, p, n) == number && numbers_told(numbers), "a message cut, whole, and with a byte too many");
+        is(told[numbers - 1] == (n == 0 || n == len ? 0 : begins[f]), "where it breaks");
+        if (n == len) continue;
+        is(told_position(numbers, told[numbers - 1]), "and nothing else is told");
+        is(all(copy.room, 0, ROOM) && state_is(&copy, CASTULFRISA_FAILED, number, role, method), "the fault");
+        is(n == 0 || strcmp(castulfrisa_field(p, n, begins[f]), f < fields ? names[f] : "bytes left over") == 0, "the field's name");
+    }
+}
+
+static void broken_messages(void)
+{
+    static const char *const of_init[] = {"C"}, *const of_reply[] = {"K_S", "S", "signature"};
+    const uint64_t init_at[] = {1, init_len}, reply_at[] = {1, 5 + ks_len, 9 + ks_len + z.s_len, reply_len};
+    started(&server, CASTULFRISA_SERVER);
+    broken(&server, CASTULFRISA_SERVER, init_of, init, init_at, of_init, 1);
+    started(&client, CASTULFRISA_CLIENT);
+    is(own_c(&client, EX, ROOM) == 0, "a client that waits for REPLY");
+    broken(&client, CASTULFRISA_CLIENT, reply_of, reply, reply_at, of_reply, 3);
 }
 
 /* A client behind its secret, one of its first bytes spoiled, then wiped: 1, and all stays. */
@@ -1081,6 +1140,8 @@ void exchanges(void)
         night(&client, CASTULFRISA_CLIENT, m);
         night(&server, CASTULFRISA_SERVER, m);
         faults(m);
+        material(m, 0);
+        broken_messages();
     }
     material(CASTULFRISA_CURVE25519_SHA256, 0);
     starts_refused();

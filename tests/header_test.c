@@ -317,6 +317,7 @@ static void all_names(const uint8_t *payload, uint64_t len)
         AGAIN(o);
         is(castulfrisa_open_list(payload, len, list, &o.told) == 0 && KEPT(o), "a list opened");
         is(part_is(o.told.cookie, 1, 16) && o.told.follows == 1 && o.told.reserved == RESERVED, "what stands beside it");
+        is(o.told.position == 0, "no position where a list is opened");
         while (*text != 0) {
             size_t due = strcspn(text, ",");
             AGAIN(name);
@@ -338,9 +339,10 @@ static void opened_lists(void)
         {0, 0}, {0, UINT64_MAX}, {UINT64_MAX, UINT64_MAX}, {UINT64_MAX, 0}, {40, 3}, {5000, 6000}, {WIDE + 21, WIDE + 25}};
     static uint8_t payload[CASTULFRISA_KEXINIT_MOST + 1];
     uint64_t len = kexinit(payload, texts, 1), n;
-    const struct { uint64_t len, list, number; uint8_t message; } refused[] = {
-        {0, 1, CASTULFRISA_PAYLOAD_SIZE, 20}, {sizeof payload, 1, CASTULFRISA_PAYLOAD_SIZE, 20}, {len, 1, CASTULFRISA_MESSAGE, 21},
-        {len - 1, 1, CASTULFRISA_PAST_END, 20}, {len + 1, 1, CASTULFRISA_LEFT_OVER, 20}, {0, 0, CASTULFRISA_BAD_INPUT, 20}};
+    const struct { uint64_t len, list, number, position; uint8_t message; } refused[] = {
+        {0, 1, CASTULFRISA_PAYLOAD_SIZE, 0, 20}, {sizeof payload, 1, CASTULFRISA_PAYLOAD_SIZE, 0, 20}, {len, 1, CASTULFRISA_MESSAGE, 0, 21},
+        {len - 1, 1, CASTULFRISA_MESSAGE, 0, 21}, {len - 1, 1, CASTULFRISA_PAST_END, len - 4, 20}, {len + 1, 1, CASTULFRISA_LEFT_OVER, len, 20},
+        {0, 0, CASTULFRISA_BAD_INPUT, 0, 20}, {len - 1, 0, CASTULFRISA_BAD_INPUT, 0, 20}, {len + 1, 11, CASTULFRISA_BAD_INPUT, 0, 20}};
     castulfrisa_cursor stood;
     size_t i;
     LEND(castulfrisa_opened, o);
@@ -349,7 +351,7 @@ static void opened_lists(void)
     payload[len - 5] = 7; /* every boolean byte but 0 is a yes */
     all_names(payload, len);
 
-    /* refusals: all of it is 0, but a cursor that yields the end */
+    /* refusals: all of it is 0, but a cursor that yields the end, and where the payload breaks */
     for (i = 0; i < COUNT(refused) + COUNT(no_list); i++) {
         AGAIN(o);
         if (i < COUNT(refused)) {
@@ -358,6 +360,7 @@ static void opened_lists(void)
         } else
             is(castulfrisa_open_list(payload, len, no_list[i - COUNT(refused)], &o.told) == CASTULFRISA_BAD_INPUT, "4, no list");
         is(all(&o.told, 0, offsetof(castulfrisa_opened, cursor)) && KEPT(o), "4, 10 to 13: told 0");
+        is(o.told.position == (i < COUNT(refused) ? refused[i].position : 0), "4, 10 to 13: the position");
         payload[0] = 20;
         stood = o.told.cursor;
         AGAIN(name);
@@ -383,6 +386,103 @@ static void opened_lists(void)
         is(name.told.start <= len && name.told.len <= len - name.told.start, "with a part of the payload");
     }
 }
+
+/* ---- where a payload breaks, and the field's name */
+
+#define FIELDS 13
+static const char *const of_kexinit[FIELDS] = {
+    "cookie", "kex_algorithms", "server_host_key_algorithms",
+    "encryption_algorithms_client_to_server", "encryption_algorithms_server_to_client",
+    "mac_algorithms_client_to_server", "mac_algorithms_server_to_client",
+    "compression_algorithms_client_to_server", "compression_algorithms_server_to_client",
+    "languages_client_to_server", "languages_server_to_client", "first_kex_packet_follows", "reserved"};
+static const char *const of_reply[] = {"K_S", "S", "signature"};
+static const char *const of_init[] = {"C"};
+
+/* The name of every position in the first n bytes of a message. begins: where its fields do, and behind the last the message's own end. A field
+   begins where those ahead of it are whole, so not behind these bytes. */
+static void named_positions(const uint8_t *payload, uint64_t n, const uint64_t *begins, const char *const *fields, size_t count)
+{
+    static const uint64_t wide[] = {WIDE, WIDE + 1, UINT64_MAX};
+    uint64_t position;
+    size_t f;
+    for (position = 0; position < begins[count] + 8; position++) {
+        const char *due = "no field";
+        for (f = 0; f <= count; f++)
+            if (begins[f] == position && position <= n) due = f < count ? fields[f] : "bytes left over";
+        is(strcmp(castulfrisa_field(payload, n, position), due) == 0, "a position's name");
+    }
+    for (f = 0; f < COUNT(wide); f++) is(strcmp(castulfrisa_field(payload, n, wide[f]), "no field") == 0, "no field at a wide position");
+}
+
+/* A KEXINIT cut everywhere, whole, and with bytes left over, opened for each of its lists and for one that it does not have. */
+static void kexinit_breaks(const char *const lists[])
+{
+    static uint8_t payload[CASTULFRISA_KEXINIT_MOST];
+    uint64_t len = kexinit(payload, lists, 1), n, list, number, begins[FIELDS + 1];
+    size_t f;
+    LEND(castulfrisa_opened, o);
+
+    begins[0] = 1;
+    begins[1] = 1 + CASTULFRISA_COOKIE;
+    for (f = 0; f < CASTULFRISA_LISTS; f++) begins[f + 2] = begins[f + 1] + 4 + strlen(lists[f]);
+    begins[12] = begins[11] + 1;
+    begins[13] = begins[12] + 4;
+    is(begins[FIELDS] == len, "a KEXINIT's fields");
+    for (n = 0; n <= len + 2; n++) {
+        for (f = 0; f < FIELDS && begins[f + 1] <= n; f++) {} /* the first that passes the end, if there is one */
+        number = n == 0 ? CASTULFRISA_PAYLOAD_SIZE : f < FIELDS ? CASTULFRISA_PAST_END : n == len ? CASTULFRISA_OK : CASTULFRISA_LEFT_OVER;
+        for (list = 0; list <= CASTULFRISA_LISTS; list++) {
+            uint64_t answered, position;
+            AGAIN(o);
+            answered = castulfrisa_open_list(payload, n, list, &o.told);
+            position = o.told.position;
+            if (list == 0) is(answered == CASTULFRISA_BAD_INPUT && position == 0 && KEPT(o), "4, and no position");
+            else is(answered == number && position == (n == 0 || n == len ? 0 : begins[f]) && KEPT(o), "a KEXINIT cut, and where it breaks");
+        }
+        named_positions(payload, n, begins, of_kexinit, FIELDS);
+    }
+
+    /* a length that passes the end by a byte, and one that 32 bits barely hold: what is behind it does not begin */
+    for (f = 1; f <= CASTULFRISA_LISTS; f++)
+        for (n = 0; n < 2; n++) {
+            number = n == 0 ? len - begins[f] - 3 : WIDE - 1;
+            kexinit(payload, lists, 1);
+            payload[begins[f]] = (uint8_t)(number >> 24);
+            payload[begins[f] + 1] = (uint8_t)(number >> 16);
+            payload[begins[f] + 2] = (uint8_t)(number >> 8);
+            payload[begins[f] + 3] = (uint8_t)number;
+            is(castulfrisa_open_list(payload, len, f, &o.told) == CASTULFRISA_PAST_END && o.told.position == begins[f], "a list too long");
+            is(strcmp(castulfrisa_field(payload, len, begins[f]), of_kexinit[f]) == 0, "its name");
+            is(strcmp(castulfrisa_field(payload, len, begins[f + 1]), "no field") == 0, "nothing begins behind it");
+            is(strcmp(castulfrisa_field(payload, len, len), "no field") == 0, "and nothing is left over");
+        }
+}
+
+static void positions(void)
+{
+    static const char *const empty[CASTULFRISA_LISTS] = {"", "", "", "", "", "", "", "", "", ""};
+    static const uint8_t init[] = "\x1e\0\0\0\3cccxx", reply[] = "\x1f\0\0\0\1k\0\0\0\0\0\0\0\2sixx";
+    static const uint64_t of_init_at[] = {1, 8}, of_reply_at[] = {1, 6, 10, 16};
+    static const uint8_t others[] = {0, 1, 19, 21, 29, 32, 255};
+    uint8_t other[sizeof reply];
+    uint64_t n;
+    size_t i;
+
+    kexinit_breaks(empty);
+    kexinit_breaks(texts);
+    for (n = 0; n <= 10; n++) named_positions(init, n, of_init_at, of_init, 1);
+    for (n = 0; n <= 18; n++) named_positions(reply, n, of_reply_at, of_reply, 3);
+    memcpy(other, reply, sizeof reply);
+    for (i = 0; i < COUNT(others); i++) {
+        other[0] = others[i];
+        for (n = 0; n <= sizeof reply; n++)
+            is(strcmp(castulfrisa_field(other, sizeof reply - 1, n), "no field") == 0, "no field of another message");
+    }
+    for (n = 0; n < 3; n++) is(strcmp(castulfrisa_field(NULL, 0, n), "no field") == 0, "no field of no bytes");
+}
+
+/* ---- the choice */
 
 static void choices(void)
 {
@@ -628,6 +728,7 @@ int main(int argc, char **argv)
     kexinits();
     bad_lists();
     opened_lists();
+    positions();
     choices();
     hashes();
     sentences();

@@ -11,6 +11,7 @@ void ignore(uint8_t *p, uint64_t n, uint64_t *count, castulfrisa_part *part, cas
     castulfrisa_opened opened;
     castulfrisa_cursor cursor = {0, 0};
     castulfrisa_choice choice;
+    castulfrisa_init init;
     castulfrisa_reply reply;
     castulfrisa_signed counts;
     castulfrisa_progress told;
@@ -29,7 +30,7 @@ void ignore(uint8_t *p, uint64_t n, uint64_t *count, castulfrisa_part *part, cas
     castulfrisa_choose(p, n, p, n, &choice);
     castulfrisa_start(p, n, n, n, p, n, p, n, p, n, p, n, p, n);
     castulfrisa_own_c(p, n, p, n, p, n, p, n, count);
-    castulfrisa_read_init(p, n, p, n, p, n, part);
+    castulfrisa_read_init(p, n, p, n, p, n, &init);
     castulfrisa_read_reply(p, n, p, n, p, n, &reply);
     castulfrisa_take_secret(p, n, p, n, n, n, p, n, n, p, n, p, n, p, n, count, p);
     castulfrisa_sign(p, n, p, n, p, n, p, n, p, n, &counts);
@@ -48,4 +49,5 @@ void ignore(uint8_t *p, uint64_t n, uint64_t *count, castulfrisa_part *part, cas
     castulfrisa_version();
     castulfrisa_join(lists, p, n, count);
     castulfrisa_text(n);
+    castulfrisa_field(p, n, n);
 }

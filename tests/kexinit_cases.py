@@ -27,26 +27,26 @@ def good_list(text):
     return text == b"" or all(good_name(name) for name in text.split(b","))
 
 
+FIXED = {0: 16, 11: 1, 12: 4}  # of the thirteen fields those without length bytes: cookie, boolean, reserved number
+
+
 def judge(payload):
-    """(number, [(start, text)] of the ten lists, boolean byte, reserved number)"""
+    """(number, [(start, text)] of the ten lists, boolean byte, reserved number, position)"""
     if not 1 <= len(payload) <= 4096:
-        return 10, [], 0, 0
+        return 10, [], 0, 0, 0
     if payload[0] != 20:
-        return 11, [], 0, 0
-    at, lists = 17, []
-    for _ in range(10):
-        start = at + 4
-        if start > len(payload):
-            return 12, [], 0, 0
-        at = start + int.from_bytes(payload[start - 4:start], "big")
-        if at > len(payload):
-            return 12, [], 0, 0
-        lists.append((start, payload[start:at]))
-    if at + 5 > len(payload):
-        return 12, [], 0, 0
-    if at + 5 < len(payload):
-        return 13, [], 0, 0
-    return 0, lists, payload[at], int.from_bytes(payload[at + 1:], "big")
+        return 11, [], 0, 0, 0
+    at, fields = 1, []
+    for n in range(13):
+        start = at + (0 if n in FIXED else 4)
+        end = start + (FIXED[n] if n in FIXED else int.from_bytes(payload[at:start], "big"))
+        if max(start, end) > len(payload):
+            return 12, [], 0, 0, at
+        fields.append((start, payload[start:end]))
+        at = end
+    if at < len(payload):
+        return 13, [], 0, 0, at
+    return 0, fields[1:11], payload[at - 5], int.from_bytes(payload[at - 4:], "big"), 0
 
 
 def message(lists, boolean=0, reserved=0, byte=20, cookie=COOKIE):
@@ -67,7 +67,7 @@ def choose(client, server):
     """number, method, place and host key name, ignore the client's packet, the server's"""
     sides = []
     for payload in (client, server):
-        number, lists, boolean, _ = judge(payload)
+        number, lists, boolean, _, _ = judge(payload)
         if number == 0 and not all(good_list(text) for _, text in lists):
             number = 19
         if number:
@@ -94,10 +94,9 @@ def answer(*words):
 
 def opened(payload, n):
     """The opening, every name, and twice where they stop."""
-    number, lists, boolean, reserved = judge(payload)
-    number = number if 1 <= n <= 10 else 4
+    number, lists, boolean, reserved, position = judge(payload) if 1 <= n <= 10 else (4, [], 0, 0, 0)
     good = number == 0
-    yield f"open {hexed(payload)} {n}", answer(number, f"1:{payload[1:17].hex()}" if good else "0:-", int(good and boolean != 0), reserved if good else 0)
+    yield f"open {hexed(payload)} {n}", answer(number, f"1:{payload[1:17].hex()}" if good else "0:-", int(boolean != 0), reserved, position)
     start, text = lists[n - 1] if good else (0, b"")
     for name in text.split(b",") if text else []:
         if not good_name(name):
@@ -140,6 +139,16 @@ def opening():
             yield from opened(room[:size], n)
     for boolean, reserved in [(0, 0), (1, 0), (2, 1), (255, 0x01020304), (128, 0x80000000), (0, 0xffffffff)]:
         yield from opened(message({}, boolean, reserved), 1)
+    # cut everywhere, and with bytes left over; each list in turn passes the end, by one byte and by as much as there is
+    filled = message({n: b"n" * n for n in range(1, 11)}, 1, 7)
+    for payload in (empty, filled):
+        for size in range(len(payload) + 4):
+            yield from opened((payload + b"\x55" * 3)[:size], 1 + size % 10)
+    at = 17
+    for n in range(1, 11):
+        for length in (len(filled) - at - 4, len(filled) - at - 3, 2**32 - 1):
+            yield from opened(filled[:at] + length.to_bytes(4, "big") + filled[at + 4:], n)
+        at += 4 + n
 
 
 def names():

@@ -25,7 +25,7 @@ from command import asked
 ROOT = pathlib.Path(__file__).resolve().parent.parent
 EXAMPLES = ROOT / 'packaging/examples'
 WARN = ['-Wall', '-Wextra', '-Werror', '-pedantic', '-O2']
-IN_HEADER = {'castulfrisa_join', 'castulfrisa_text', 'castulfrisa_wipe_stack'}
+IN_HEADER = {'castulfrisa_join', 'castulfrisa_text', 'castulfrisa_field', 'castulfrisa_wipe_stack'}
 DIGEST = hashlib.sha256(b'abc').hexdigest()
 # Debian's package of each program that not every machine with a compiler has
 PACKAGES = {'pkg-config': 'pkgconf', 'cmake': 'cmake', 'groff': 'groff-base'}

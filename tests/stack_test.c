@@ -244,7 +244,7 @@ static uint64_t put(uint8_t *at, uint64_t len)
 static void started(uint64_t role)
 {
     static const uint8_t v[] = "v";
-    castulfrisa_part c;
+    castulfrisa_init told;
     castulfrisa_reply parts;
     int good = castulfrisa_start(exchange, EX, role, method, v, 1, v, 1, kexinit, sizeof kexinit, kexinit, sizeof kexinit, room, ROOM) == 0;
     h_len = key_len = 0;
@@ -258,7 +258,7 @@ static void started(uint64_t role)
     } else {
         payload[0] = 30;
         payload_len = 1 + put(payload + 1, z.c_len);
-        good = good && castulfrisa_read_init(exchange, EX, room, ROOM, payload, payload_len, &c) == 0;
+        good = good && castulfrisa_read_init(exchange, EX, room, ROOM, payload, payload_len, &told) == 0;
     }
     if (!good) {
         printf("stack: method %u: no exchange to look at\n", (unsigned)method);

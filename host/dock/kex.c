@@ -72,6 +72,29 @@ static bool accepted(struct kex *k, const char *what, uint64_t number)
     return peer_fault(&k->link, "%s refused (number %u: %s)", what, (unsigned)number, castulfrisa_text(number));
 }
 
+/* Whether a field, by castulfrisa_field's name for it, begins with length bytes. */
+static bool has_length(const char *field)
+{
+    static const char *const without[] = {"cookie", "first_kex_packet_follows", "reserved"};
+    for (size_t i = 0; i < sizeof without / sizeof without[0]; i++)
+        if (strcmp(field, without[i]) == 0) return false;
+    return true;
+}
+
+/* A message of the peer's. Where it breaks, the line says at which byte and in which field: who sees it does not see the message. */
+static bool accepted_message(struct kex *k, const char *what, uint64_t number, span message, uint64_t position)
+{
+    const unsigned long at = (unsigned long)position;
+    const char *text = castulfrisa_text(number);
+    if (number == CASTULFRISA_LEFT_OVER)
+        return peer_fault(&k->link, "%s has bytes left over from byte %lu on (number %u: %s)", what, at, (unsigned)number, text);
+    if (number != CASTULFRISA_PAST_END) return accepted(k, what, number);
+    const char *field = castulfrisa_field(message.at, message.len, position);
+    const char *the = strcmp(field, "cookie") == 0 || strcmp(field, "signature") == 0 ? "the " : "";
+    const char *part = has_length(field) && message.len < position + 4 ? "'s length" : "";
+    return peer_fault(&k->link, "%s cut at byte %lu, in %s%s%s (number %u: %s)", what, at, the, field, part, (unsigned)number, text);
+}
+
 /* Shows a step, with the message that it made or read if there is one. filled: how far its fields fill the room once it is accepted. */
 static uint64_t shown(struct kex *k, const char *direction, const char *what, uint64_t length, uint64_t number, uint64_t filled)
 {
@@ -193,6 +216,14 @@ static bool choose_strict(struct kex *k)
     return !k->link.strict || k->link.coming.sequence == 1 || peer_fault(&k->link, "KEXINIT is not the first packet of a strict key exchange");
 }
 
+/* The choice does not tell where a KEXINIT breaks: opening it for any list does. It is the peer's, for the own one was written by the core. */
+static bool accepted_choice(struct kex *k, uint64_t number, span peer)
+{
+    castulfrisa_opened opened;
+    if (castulfrisa_open_list(peer.at, peer.len, CASTULFRISA_LIST_KEX, &opened) != number) return accepted(k, "KEXINIT", number);
+    return accepted_message(k, "KEXINIT", number, peer, opened.position);
+}
+
 /* KEXINIT has gone both ways: the choice, and the exchange begun, or begun again. */
 static bool negotiate(struct kex *k, span peer)
 {
@@ -205,7 +236,7 @@ static bool negotiate(struct kex *k, span peer)
     castulfrisa_choice choice;
     uint64_t number = castulfrisa_choose(k->ic.at, k->ic.len, k->is.at, k->is.len, &choice);
     show(k->link.show, "<-", "KEXINIT", (long)peer.len, (int)number, -1);
-    if (!accepted(k, "KEXINIT", number)) return false;
+    if (!accepted_choice(k, number, peer)) return false;
     memcpy(k->peer_i, peer.at, peer.len);
     *(client ? &k->is : &k->ic) = (span){k->peer_i, peer.len};
 
@@ -351,7 +382,8 @@ static bool read_reply(struct kex *k, span *host_key, span *s, span *signature)
     *host_key = part_of(reply, parts.host_key);
     *s = part_of(reply, parts.s);
     *signature = part_of(reply, parts.signature);
-    return accepted(k, "REPLY", shown(k, "<-", "REPLY", reply.len, number, k->filled + 4 + parts.host_key.len + 4 + parts.s.len));
+    shown(k, "<-", "REPLY", reply.len, number, k->filled + 4 + parts.host_key.len + 4 + parts.s.len);
+    return accepted_message(k, "REPLY", number, reply, parts.position);
 }
 
 /* Hands the core what the primitives gave, and gets H. From here on every call leaves K below it, accepted or not: it is wiped before
@@ -482,10 +514,11 @@ static bool read_init(struct kex *k, bool *given)
 {
     span init;
     if (!receive_message(k, &init)) return false;
-    castulfrisa_part c;
-    uint64_t number = castulfrisa_read_init(EXCHANGE(k), init.at, init.len, &c);
-    if (!accepted(k, "INIT", shown(k, "<-", "INIT", init.len, number, k->filled + 4 + c.len))) return false;
-    span value = part_of(init, c);
+    castulfrisa_init told;
+    uint64_t number = castulfrisa_read_init(EXCHANGE(k), init.at, init.len, &told);
+    shown(k, "<-", "INIT", init.len, number, k->filled + 4 + told.c.len);
+    if (!accepted_message(k, "INIT", number, init, told.position)) return false;
+    span value = part_of(init, told.c);
     size_t kem_len = (size_t)k->sizes.c_classical;
     answer_kem(k, (span){value.at, kem_len});
     bool drawn = draw_against(k, (span){value.at + kem_len, value.len - kem_len}, given);

@@ -109,8 +109,8 @@ static void start_server(void) { start(CASTULFRISA_SERVER); }
 
 static void read_init(void)
 {
-    castulfrisa_part c;
-    number = castulfrisa_read_init(EXCHANGE, init, init_len, &c);
+    castulfrisa_init told;
+    number = castulfrisa_read_init(EXCHANGE, init, init_len, &told);
 }
 
 static void sign(void)

@@ -70,7 +70,7 @@ static void complete(uint64_t method)
     uint8_t c[CASTULFRISA_VALUE_MOST], s[CASTULFRISA_VALUE_MOST];
     uint8_t x[CASTULFRISA_X_MOST];
     castulfrisa_sizes sizes;
-    castulfrisa_part in_init;
+    castulfrisa_init in_init;
     castulfrisa_reply parts;
     castulfrisa_signed counts;
     uint64_t count;
@@ -85,8 +85,8 @@ static void complete(uint64_t method)
         init.at, sizeof init.at, &init.len));
 
     /* server: X is made of the client's value, which stands at
-       init.at + in_init.start, and of its own private one; then H is
-       signed, the first sizes.digest_len bytes of h */
+       init.at + in_init.c.start, and of its own private one; then H
+       is signed, the first sizes.digest_len bytes of h */
     ok("read_init", castulfrisa_read_init(SIDE(&server), init.at,
         init.len, &in_init));
     ok("take_secret", castulfrisa_take_secret(SIDE(&server), 1,

@@ -80,6 +80,42 @@ def words(rng):
                        bytes([DEBUG, 1]) + string(b"a\nb\x1b[31m") + string(b"")])
 
 
+# ---- where a message breaks, as dock's line has it
+
+WAYS = "client_to_server", "server_to_client"
+LISTS = ["kex_algorithms", "server_host_key_algorithms",
+         *(f"{what}_{way}" for what in ("encryption_algorithms", "mac_algorithms", "compression_algorithms", "languages") for way in WAYS)]
+# of each message its name, how long it may be, and its fields, each with its size where it is no string
+MESSAGES = {
+    INIT: ("INIT", 32768, {"C": None}),
+    REPLY: ("REPLY", 32768, {"K_S": None, "S": None, "the signature": None}),
+    KEXINIT: ("KEXINIT", 4096, {"the cookie": 16, **dict.fromkeys(LISTS), "first_kex_packet_follows": 1, "reserved": 4}),
+}
+BREAKS = {"cut": "(number 12: a field of the payload passes its end)", "has": "(number 13: the payload has bytes left over)"}
+
+
+def breaking(message, said):
+    """dock's whole line."""
+    return f"dock: {MESSAGES[message][0]} {said} {BREAKS[said.split()[0]]}\n"
+
+
+def broken(payload, message):
+    """The line on a payload that breaks where this message is due; None for one that does not, and for one that is not looked into so far."""
+    _, most, fields = MESSAGES[message]
+    if payload[:1] != bytes([message]) or len(payload) > most:
+        return None
+    at = 1
+    for field, size in fields.items():
+        left = payload[at:]
+        if size is None and len(left) < 4:
+            return breaking(message, f"cut at byte {at}, in {field}'s length")
+        size = size or 4 + int.from_bytes(left[:4], "big")
+        if len(left) < size:
+            return breaking(message, f"cut at byte {at}, in {field}")
+        at += size
+    return breaking(message, f"has bytes left over from byte {at} on") if at < len(payload) else None
+
+
 # ---- plays that serve both sides
 
 def send_bad_length(p, rng):
@@ -103,8 +139,25 @@ def refused_kexinit(p, rng):
         (kexinit(b"other," + b"n" * 64, ed25519), 20), (kexinit(b"", ed25519), 20), (kexinit(b"sntrup761x25519-sha512", ed25519), 20),
         (kexinit(KEX, b"ssh-dss"), 21), (kexinit(KEX, b""), 21), (kexinit(b"ext-info-c", b""), 20)])
     p.send(OWN + b"\r\n")
-    p.must = FAULT, number
+    p.must = FAULT, broken(payload, KEXINIT) or number
     p.send(packet(payload))
+    p.version()
+    p.read()
+    p.read()
+
+
+def broken_kexinit(p, rng):
+    payload = kexinit(KEX, b"ssh-ed25519")
+    end = len(payload)
+    size, said = rng.case([
+        (1, "cut at byte 1, in the cookie"), (16, "cut at byte 1, in the cookie"), (17, "cut at byte 17, in kex_algorithms's length"),
+        (20, "cut at byte 17, in kex_algorithms's length"), (21, "cut at byte 17, in kex_algorithms"),
+        (end - 6, f"cut at byte {end - 9}, in languages_server_to_client's length"), (end - 5, f"cut at byte {end - 5}, in first_kex_packet_follows"),
+        (end - 4, f"cut at byte {end - 4}, in reserved"), (end - 1, f"cut at byte {end - 4}, in reserved"),
+        (end + 1, f"has bytes left over from byte {end} on")])
+    p.send(OWN + b"\r\n")
+    p.must = FAULT, breaking(KEXINIT, said)
+    p.send(packet((payload + b"\0")[:size]))
     p.version()
     p.read()
     p.read()
@@ -182,23 +235,35 @@ def changed_reply(change, number=None):
     def play(p, rng):
         p.greet()
         payload = change(rng, p.reply())
-        p.must = FAULT, 10 if not payload else number
+        p.must = FAULT, 10 if not payload else broken(payload, REPLY) or number
         p.send(packet(payload))
     return play
 
 
+def broken_reply(p, rng):
+    p.greet()
+    size, said = rng.case([
+        (1, "cut at byte 1, in K_S's length"), (4, "cut at byte 1, in K_S's length"), (5, "cut at byte 1, in K_S"), (56, "cut at byte 56, in S's length"),
+        (60, "cut at byte 56, in S"), (91, "cut at byte 56, in S"), (92, "cut at byte 92, in the signature's length"),
+        (95, "cut at byte 92, in the signature's length"), (96, "cut at byte 92, in the signature"), (178, "cut at byte 92, in the signature"),
+        (180, "has bytes left over from byte 179 on")])
+    p.must = FAULT, breaking(REPLY, said)
+    p.send(packet((p.reply() + b"\0")[:size]))
+
+
 def reply_lengths(p, rng):
     p.greet()
-    payload = p.reply()
     n = len(SIGNER.blob)
-    p.must = FAULT, None
-    p.send(packet(with_length(rng, payload, rng.choice([1, 5 + n, 41 + n]))))
+    payload = with_length(rng, p.reply(), rng.choice([1, 5 + n, 41 + n]))
+    p.must = FAULT, broken(payload, REPLY)
+    p.send(packet(payload))
 
 
 def reply_random(p, rng):
     p.greet()
-    p.must = FAULT, None
-    p.send(packet(bytes([REPLY]) + rng.randbytes(rng.case([0, 3, 4, 5, 100, 3000, 32767, 33000]))))
+    payload = bytes([REPLY]) + rng.randbytes(rng.case([0, 3, 4, 5, 100, 3000, 32767, 33000]))
+    p.must = FAULT, broken(payload, REPLY)
+    p.send(packet(payload))
 
 
 def low_order_s(p, rng):
@@ -259,7 +324,7 @@ def changed_kexinit_of_server(change):
     def play(p, rng):
         payload = change(rng, kexinit(KEX, b"ssh-ed25519"))
         first = payload[0] if payload else 0
-        p.must = (QUIET, None) if first == DISCONNECT else (FAULT, None)
+        p.must = (QUIET, None) if first == DISCONNECT else (FAULT, broken(payload, KEXINIT))
         p.send(OWN + b"\r\n" + packet(payload))
         p.v_c = p.version()
         p.i_s, p.i_c = payload, p.read()
@@ -327,12 +392,12 @@ def no_newkeys(p, rng):
 SERVERS = [
     (50, "REPLY cut", changed_reply(cut, 12)), (20, "REPLY longer", changed_reply(longer, 13)),
     (70, "REPLY flipped", changed_reply(lambda rng, b: b[:1] + flipped(rng, b[1:]))),
-    (20, "REPLY renumbered", changed_reply(renumbered, 11)),
+    (20, "REPLY renumbered", changed_reply(renumbered, 11)), (11, "REPLY broken at a place", broken_reply),
     (30, "REPLY with another length", reply_lengths), (16, "REPLY random", reply_random), (7, "S of low order", low_order_s),
     (28, "signature wrong", wrong_signature), (40, "host key of another type", other_key_type),
     (15, "KEXINIT cut", changed_kexinit_of_server(cut)), (5, "KEXINIT longer", changed_kexinit_of_server(longer)),
     (40, "KEXINIT flipped", changed_kexinit_of_server(flipped)), (10, "KEXINIT renumbered", changed_kexinit_of_server(renumbered)),
-    (15, "KEXINIT refused", refused_kexinit),
+    (15, "KEXINIT refused", refused_kexinit), (10, "KEXINIT broken at a place", broken_kexinit),
     (18, "packet length", bad_packet_of_server(send_bad_length)), (10, "padding", bad_packet_of_server(send_bad_padding)),
     (18, "early close", server_closes), (22, "version line", garbage_version), (20, "words, then another message", words_then_wrong),
     (20, "DISCONNECT", cut_disconnect), (7, "no NEWKEYS", no_newkeys), (6, "nothing in common", nothing_in_common),
@@ -378,13 +443,21 @@ def changed_init(change, number=None):
     def play(p, rng):
         p.greet()
         payload = change(rng, init())
-        p.must = FAULT, 10 if not payload else number
+        p.must = FAULT, 10 if not payload else broken(payload, INIT) or number
         if payload[:5] == init()[:5] and len(payload) == len(init()):
             p.must = QUIET, None  # another C, as good as the first; dock answers it, and this client goes away
         p.send(packet(payload))
         if p.must[0] == QUIET:
             p.read()
     return play
+
+
+def broken_init(p, rng):
+    p.greet()
+    size, said = rng.case([(1, "cut at byte 1, in C's length"), (4, "cut at byte 1, in C's length"), (5, "cut at byte 1, in C"),
+                           (36, "cut at byte 1, in C"), (38, "has bytes left over from byte 37 on")])
+    p.must = FAULT, breaking(INIT, said)
+    p.send(packet((init() + b"\0")[:size]))
 
 
 def init_of(c, number, kex=KEX):
@@ -398,7 +471,7 @@ def init_of(c, number, kex=KEX):
 def changed_kexinit_of_client(change):
     def play(p, rng):
         payload = change(rng, kexinit(KEX, b"ssh-ed25519"))
-        p.must = (QUIET, None) if payload[:1] == bytes([DISCONNECT]) else (FAULT, None)
+        p.must = (QUIET, None) if payload[:1] == bytes([DISCONNECT]) else (FAULT, broken(payload, KEXINIT))
         p.send(OWN + b"\r\n" + packet(payload))
         p.version()
         p.read()
@@ -430,7 +503,7 @@ NISTP256 = b"ecdh-sha2-nistp256"
 CLIENTS = [
     (25, "INIT cut", changed_init(cut, 12)), (10, "INIT longer", changed_init(longer, 13)),
     (30, "INIT flipped", changed_init(lambda rng, b: b[:1] + flipped(rng, b[1:]))),
-    (12, "INIT renumbered", changed_init(renumbered, 11)),
+    (12, "INIT renumbered", changed_init(renumbered, 11)), (5, "INIT broken at a place", broken_init),
     (12, "INIT with another length", changed_init(lambda rng, b: with_length(rng, b, 1))),
     (7, "C of another length", init_of(lambda rng: rng.randbytes(rng.case([0, 1, 31, 33, 64, 65, 2000])), 14)),
     (7, "C of low order", init_of(lambda rng: rng.case(LOW_ORDER), 16)),
@@ -438,7 +511,7 @@ CLIENTS = [
     (6, "point with another lead byte", init_of(lambda rng: bytes([rng.case([0, 2, 3, 5, 6, 7])]) + rng.randbytes(64), 15, NISTP256)),
     (6, "point off the curve", init_of(lambda rng: b"\4" + rng.case([bytes(64), rng.randbytes(64), b"\xff" * 64]), 16, NISTP256)),
     (8, "KEXINIT cut", changed_kexinit_of_client(cut)), (16, "KEXINIT flipped", changed_kexinit_of_client(flipped)),
-    (15, "KEXINIT refused", refused_kexinit),
+    (15, "KEXINIT refused", refused_kexinit), (10, "KEXINIT broken at a place", broken_kexinit),
     (18, "packet length", bad_packet_of_client(send_bad_length)), (10, "padding", bad_packet_of_client(send_bad_padding)),
     (10, "early close", client_closes), (22, "version line", garbage_version), (20, "DISCONNECT", cut_disconnect), (7, "no NEWKEYS", no_newkeys),
     (6, "nothing in common", nothing_in_common),
@@ -465,7 +538,7 @@ def judge(must, code, out, err, p):
         text = take_string(last[5:])[0]
         need(text and last == disconnect(reason, text), "its DISCONNECT is not well-formed:", last)
     said = f"(number {said}: " if isinstance(said, int) else said or ""
-    need(said in err, f"'{said}' expected: {err.strip()}")
+    need(said in err, f"'{said.strip()}' expected: {err.strip()}")
 
 
 def connected(play, p, rng):
@@ -534,9 +607,9 @@ def between(sshd_port, change):
             q.send(packet(p.read()))
             p.send(packet(q.read()))
             q.send(packet(p.read()))
-            reply, newkeys = q.read(), q.read()
-            p.must = FAULT, None
-            p.send(packet(change(rng, reply)) + packet(newkeys))
+            reply, newkeys = change(rng, q.read()), q.read()
+            p.must = FAULT, broken(reply, REPLY)
+            p.send(packet(reply) + packet(newkeys))
             p.read()
         finally:
             q.finish()

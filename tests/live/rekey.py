@@ -13,7 +13,7 @@ import re
 import socket
 import struct
 
-from hostile import FAULT, KEX, LOW_ORDER, QUIET, SIGNER, Turn, against_client, against_server, cut, init, judge, longer, words
+from hostile import FAULT, KEX, LOW_ORDER, QUIET, SIGNER, Turn, against_client, against_server, broken, cut, init, judge, longer, words
 from peer import (ACCEPT, DEBUG, IGNORE, INIT, KEXINIT, NEWKEYS, REPLY, REQUEST, SEALS, UNIMPLEMENTED, Ed25519, disconnect, ed25519_holds, kexinit,
                   packet, service, string, take_string, unimplemented)
 from programs import METHODS, Failure, later_exchanges, logged, need, results, unwarned
@@ -490,7 +490,7 @@ def rubbish_kexinit(p, rng):
         (kexinit(p.strict_name[1:], ed25519), 20), (kexinit(KEX, b"ssh-dss"), 21), (bytes([KEXINIT]) + rng.randbytes(400), None),
         (kexinit(KEX, ed25519, compressions=(b"none", b"zlib")), "no compression in common"),
         (kexinit(KEX, ed25519, seals=((b"aes192-ctr", b"hmac-sha2-256"), SEALS[1])), "no cipher in common")])
-    p.must = FAULT, said
+    p.must = FAULT, broken(payload, KEXINIT) or said
     say(p, payload)
 
 
@@ -511,7 +511,7 @@ def changed_message(p, rng):
     low = p.reply(s=rng.choice(LOW_ORDER)) if p.serves else init(rng.choice(LOW_ORDER))
     payload, number = rng.case([(cut(rng, payload[:-1]) or payload[:1], 12), (longer(rng, payload), 13), (low, 16), (b"", 10),
                                 (payload[:1] + b"\xff" + payload[2:], 12)])
-    p.must = FAULT, number
+    p.must = FAULT, broken(payload, REPLY if p.serves else INIT) or number
     say(p, payload)
 
 
