@@ -28,7 +28,8 @@
      as they were.
    - A position is where a payload breaks, counted from 0 at its first byte. castulfrisa_open_list, castulfrisa_read_init and
      castulfrisa_read_reply tell it: with 12 where the field that passes the end begins, a string at its four length bytes; with 13 the
-     first byte left over; with every other number 0. castulfrisa_field has a name for it.
+     first byte left over; with every other number 0. With 12 it may be the payload's length, where not one byte of the field is there:
+     no byte to read. castulfrisa_field has the field's name.
    - A part is a place in the payload that was handed in: bytes payload[start] to payload[start + len - 1].
    - Numbers are judged as they come, all 64 bits: 257 is no method. A yes is 1; every other number, 2 too, is a no. A yes/no that is
      told is 1 or 0.
@@ -353,7 +354,7 @@ CASTULFRISA_MUST_USE uint64_t castulfrisa_read_init(
    1; 3; 10 to 15: the peer's fault, with 12 and 13 the position. */
 CASTULFRISA_MUST_USE uint64_t castulfrisa_read_reply(
     uint8_t *exchange, uint64_t exchange_len, uint8_t *room, uint64_t room_len,
-    const uint8_t *payload, uint64_t payload_len, castulfrisa_reply *parts);
+    const uint8_t *payload, uint64_t payload_len, castulfrisa_reply *told);
 
 /* Both roles: what the primitives gave.
    given   a no: the classical primitive failed, and x_count and x are not looked at. A yes: it gave x_count bytes, which are x, with
@@ -519,8 +520,8 @@ CASTULFRISA_MUST_USE static inline const char *castulfrisa_text(uint64_t number)
     }
 }
 
-/* The field of an INIT, REPLY or KEXINIT that a position tells: its name in the RFCs, or "bytes left over" where every field is ahead of
-   it. "no field" for another payload, and for a position where none of its fields begins: 0 is one. */
+/* The field of an INIT, REPLY or KEXINIT that a position tells: C; K_S, S or signature; of a KEXINIT its name in the RFC. "bytes left over"
+   where every field is ahead of it. "no field" for another payload, and for a position where none of its fields begins: 0 is one. */
 CASTULFRISA_MUST_USE static inline const char *castulfrisa_field(const uint8_t *payload, uint64_t payload_len, uint64_t position)
 {
     static const char *const init[] = {"C"};

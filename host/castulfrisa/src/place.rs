@@ -64,7 +64,7 @@ pub enum Field {
 }
 
 impl Field {
-    /// Its name in the RFCs, as the header has it.
+    /// Its name, as the header has it: a KEXINIT's are the RFC's.
     pub fn name(self) -> &'static str {
         match self {
             Field::Cookie => "cookie",
@@ -116,7 +116,7 @@ impl Field {
 pub struct Place {
     pub message: Message,
     /// Counted from 0 at the payload's first byte: where the field that is cut begins, a string at its four length bytes; or the
-    /// first byte that is left over.
+    /// first byte that is left over. It is the payload's length where not one byte of the field is there.
     pub position: usize,
     /// The field that is cut; none where bytes are left over behind the last one.
     pub field: Option<Field>,

@@ -157,7 +157,7 @@ mod c {
         ) -> u64;
         pub fn castulfrisa_read_reply(
             exchange: *mut u8, exchange_len: u64, room: *mut u8, room_len: u64,
-            payload: *const u8, payload_len: u64, parts: *mut Reply,
+            payload: *const u8, payload_len: u64, told: *mut Reply,
         ) -> u64;
         pub fn castulfrisa_take_secret(
             exchange: *mut u8, exchange_len: u64, room: *mut u8, room_len: u64,
