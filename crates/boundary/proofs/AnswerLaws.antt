@@ -23,8 +23,8 @@ use Rattle.messages.proofs.CutLaws.{init-ordered, reply-ordered, position-told}
 use Rattle.exchange.specs.Steps.{init, reply}
 use Rattle.exchange.proofs.Positions.{init-broken, reply-broken}
 use Rattle.stored.specs.Stored.{decoded, fits, byFit}
-use Rattle.lent.specs.Lent.{Left, left, tells, stepLeft, untouched, lentCall, positioned}
-use Rattle.lent.proofs.AsStep.{number-left, position-aside}
+use Rattle.lent.specs.Lent.{Left, left, lentCall, positioned}
+use Rattle.lent.proofs.AsStep.{number-left, position-aside, init-size, reply-size, told-size}
 use Rattle.kexinit.specs.Reader.{kexinitLayout, openList}
 use Rattle.kexinit.proofs.ReaderLaws.{open-told}
 use Rattle.boundary.specs.Answers.{openedNumbers}
@@ -55,24 +55,7 @@ module _ (b room p : List ℕ) (y : Bytes p) where
       by-fit true h = refl
       by-fit false h = let w : ⊥ = omega arith in absurd w
 
-  -- what is told ahead of it: a part, or three
-  init-parts : length (lentCall b room (init p) [] .told) ≡ 2
-  unfolding lentCall byFit stepLeft tells
-  init-parts = by-fit (fits b)
-    where
-      by-fit : (t : Bool) → length (cond t (stepLeft b (decoded b) room (init p) []) (untouched b room 2 []) .told) ≡ 2
-      by-fit true = refl
-      by-fit false = refl
-
-  reply-parts : length (lentCall b room (reply p) [] .told) ≡ 6
-  unfolding lentCall byFit stepLeft tells
-  reply-parts = by-fit (fits b)
-    where
-      by-fit : (t : Bool) → length (cond t (stepLeft b (decoded b) room (reply p) []) (untouched b room 6 []) .told) ≡ 6
-      by-fit true = refl
-      by-fit false = refl
-
-  -- the number behind them
+  -- the number behind the parts
   behind : (l told : List ℕ) (k at : ℕ) → length l ≡ k → told ≡ l ++ at ∷ [] → at ≡ getD told k 0
   behind l told k at h e = sym (ap (λ (w : List ℕ). getD w k 0) e ∙ getD-at l at [] 0 k h)
 
@@ -82,14 +65,14 @@ module _ (b room p : List ℕ) (y : Bytes p) where
     init-lent c =
         let x = position-aside (lentCall b room (init p) []) _ c in
         let e = ap (λ (y : Left). y .number) c ∙ number-left b room (init p) [] in
-        subst (PositionTold initLayout p n) (behind (lentCall b room (init p) [] .told) told 2 _ init-parts (x .1))
+        subst (PositionTold initLayout p n) (behind (lentCall b room (init p) [] .told) told 2 _ (told-size b room (init p) [] (init-size (decoded b) room p)) (x .1))
         (position-told initLayout init-ordered p y n (λ l h. init-broken n l h (decoded b) room p (fitting _ (omega (arith, e)) ∙ sym e)))
 
     pub reply-lent : left n told ex room′ [] ≡ positioned (position n replyLayout p) (lentCall b room (reply p) []) → PositionTold replyLayout p n (getD told 6 0)
     reply-lent c =
         let x = position-aside (lentCall b room (reply p) []) _ c in
         let e = ap (λ (y : Left). y .number) c ∙ number-left b room (reply p) [] in
-        subst (PositionTold replyLayout p n) (behind (lentCall b room (reply p) [] .told) told 6 _ reply-parts (x .1))
+        subst (PositionTold replyLayout p n) (behind (lentCall b room (reply p) [] .told) told 6 _ (told-size b room (reply p) [] (reply-size (decoded b) room p)) (x .1))
         (position-told replyLayout reply-ordered p y n (λ l h. reply-broken n l h (decoded b) room p (fitting _ (omega (arith, e)) ∙ sym e)))
 
 -- and castulfrisa_open_list

@@ -15,7 +15,7 @@ use Rattle.wire.proofs.CauseLaws.{unless-fails}
 use Rattle.exchange.specs.Causes.{startCause}
 use Rattle.exchange.specs.Record.{due}
 use Rattle.exchange.specs.Numbers.{Kind, accepted, refused, fault, kind, byKind}
-use Rattle.exchange.specs.Steps.{Call, init, reply, number, stepNumber, secondOf, countOf, exchangeAfter, roomAfter, positionOf, answered, started, startedRoom, refusedStep}
+use Rattle.exchange.specs.Steps.{Call, number, stepNumber, secondOf, countOf, exchangeAfter, roomAfter, positionOf, answered, started, startedRoom, refusedStep}
 use Rattle.exchange.specs.declared.Lengths.{Lengths}
 use Rattle.exchange.specs.declared.Exchange.{Exchange}
 use Rattle.exchange.specs.declared.Step.{Step}
@@ -153,15 +153,6 @@ second-none e room q h = by-kind (kind (number e room q))
     by-kind fault = refl
 
 -- ---- a reader
-
--- what it tells ahead of the position: a part, or three
-pub init-size : (e : Exchange) (room p : List ℕ) → length (tells e room (init p)) ≡ 2
-unfolding tells
-init-size e room p = refl
-
-pub reply-size : (e : Exchange) (room p : List ℕ) → length (tells e room (reply p)) ≡ 6
-unfolding tells
-reply-size e room p = refl
 
 -- nothing is counted, and the position stands behind what else is told
 module _ (e : Exchange) (room : List ℕ) (q : Call) (t : Bool) (b : List ℕ) (l : Laid e t b) where

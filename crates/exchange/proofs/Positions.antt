@@ -14,6 +14,7 @@ use Rattle.messages.specs.Payload.{messageCause}
 use Rattle.wire.proofs.CauseLaws.{if-fails, unless-holds, orElse-first}
 use Rattle.messages.specs.Position.{position, CutAt, LeftOverAt, PositionTold}
 use Rattle.messages.specs.Messages.{initLayout, replyLayout}
+use Rattle.messages.proofs.PayloadLaws.{passed}
 use Rattle.messages.proofs.PositionLaws.{position-some}
 use Rattle.messages.proofs.CutLaws.{init-ordered, reply-ordered, cut-found, left-over-found, position-told}
 use Rattle.exchange.specs.Causes.{initCause, replyCause}
@@ -28,11 +29,6 @@ module _ (k : ℕ) (low : 11 < k) (high : k < 14) where
   if-other true n rest h e = absurd (h e)
   if-other false n rest h e = e
 
-  unless-other : (t : Bool) (n rest : ℕ) → ¬ (n ≡ k) → causeUnless t n rest ≡ k → rest ≡ k
-  unfolding causeUnless
-  unless-other true n rest h e = e
-  unless-other false n rest h e = absurd (h e)
-
   first-is : (a b : ℕ) → ¬ (b ≡ k) → orElse a b ≡ k → a ≡ k
   unfolding orElse
   first-is a b h e = by-test (eqb a 0) e
@@ -44,13 +40,13 @@ module _ (k : ℕ) (low : 11 < k) (high : k < 14) where
   -- of a field's length or lead byte
   of-field : (s t : Bool) → ¬ (causeUnless s 14 (causeUnless t 15 0) ≡ k)
   of-field s t e =
-      let z = unless-other t 15 0 (λ x. omega arith) (unless-other s 14 _ (λ x. omega arith) e) in
+      let z = passed t 15 0 k (λ x. omega arith) (passed s 14 _ k (λ x. omega arith) e .1) .1 in
       omega arith
 
   module _ (e : Exchange) (room : List ℕ) where
     fed-is : (q : Call) → number e room q ≡ k → fedCause (e .role) (e .method) q ≡ k
     unfolding number stepNumber
-    fed-is q h = if-other _ 3 _ (λ x. omega arith) (unless-other _ 1 _ (λ x. omega arith) h)
+    fed-is q h = if-other _ 3 _ (λ x. omega arith) (passed _ 1 _ k (λ x. omega arith) h .1)
 
     pub init-broken : (p : List ℕ) → number e room (init p) ≡ k → messageCause initLayout p ≡ k
     unfolding fedCause initCause

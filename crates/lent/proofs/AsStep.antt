@@ -3,11 +3,11 @@ use Prim.Native.Nat.{ℕ}
 use mathlib.Core.Path.{_≡_, refl, sym, ap, _∙_}
 use mathlib.Core.List.{List, [], _∷_, _++_}
 use mathlib.Core.Bool.{Bool, true, false, cond}
-use lib.ListN.{length}
+use lib.ListN.{length, length-replicate}
 use lib.Dec.{eqb}
 use Rattle.exchange.specs.Record.{ended}
 use Rattle.exchange.specs.Numbers.{Kind, accepted, refused, fault, kind, byKind}
-use Rattle.exchange.specs.Steps.{Call, number, taken, exchangeAfter, roomAfter}
+use Rattle.exchange.specs.Steps.{Call, init, reply, number, taken, exchangeAfter, roomAfter}
 use Rattle.exchange.specs.Again.{againNumber, begunAgain, againAfter, againRoom}
 use Rattle.exchange.specs.declared.Exchange.{Exchange}
 use Rattle.stored.specs.Stored.{encoded, decoded, fits, byFit}
@@ -68,6 +68,24 @@ number-left b room q outs = by-fit (fits b)
     by-fit false = refl
 
 -- ---- a position behind what is told
+
+-- what a reader tells ahead of it: a part, or three
+pub init-size : (e : Exchange) (room p : List ℕ) → length (tells e room (init p)) ≡ 2
+unfolding tells
+init-size e room p = refl
+
+pub reply-size : (e : Exchange) (room p : List ℕ) → length (tells e room (reply p)) ≡ 6
+unfolding tells
+reply-size e room p = refl
+
+-- on any bytes as many as on an exchange's
+pub told-size : (b room : List ℕ) (q : Call) (outs : List (List ℕ)) → length (tells (decoded b) room q) ≡ toldSize q → length (lentCall b room q outs .told) ≡ toldSize q
+unfolding lentCall byFit stepLeft
+told-size b room q outs h = by-fit (fits b)
+  where
+    by-fit : (t : Bool) → length (cond t (stepLeft b (decoded b) room q outs) (untouched b room (toldSize q) outs) .told) ≡ toldSize q
+    by-fit true = h
+    by-fit false = length-replicate (toldSize q) 0
 
 module _ {n : ℕ} {told ex room : List ℕ} {outs : List (List ℕ)} where
   pub position-behind : {l : Left} {x y : ℕ} → left n told ex room outs ≡ l → x ≡ y → left n (told ++ x ∷ []) ex room outs ≡ positioned y l

@@ -18,7 +18,7 @@ use Rattle.messages.specs.declared.Layout.{Layout}
 use Rattle.messages.specs.declared.Judged.{Judged}
 
 -- a cause with another number was not met
-passed : (t : Bool) (n rest m : ℕ) → ¬ (n ≡ m) → causeUnless t n rest ≡ m → (t ≡ true) × (rest ≡ m)
+pub passed : (t : Bool) (n rest m : ℕ) → ¬ (n ≡ m) → causeUnless t n rest ≡ m → (t ≡ true) × (rest ≡ m)
 unfolding causeUnless
 passed true n rest m h e = (refl, e)
 passed false n rest m h e = absurd (h e)

@@ -3,7 +3,8 @@ use borrow.Author.Needs.{needs}
 use mathlib.Core.Path.{refl, _∙_}
 use denote.Ref.{now}
 use Rattle.exchange.specs.Steps.{reply, countOf, secondOf, positionOf}
-use Rattle.by_value.proofs.ValueLaws.{Sized, value-long, reply-size, value-read}
+use Rattle.lent.proofs.AsStep.{reply-size}
+use Rattle.by_value.proofs.ValueLaws.{Sized, value-long, value-read}
 use Rattle.client.proofs.read_reply.Statement.{statement}
 use Rattle.client.proofs.read_reply.Tie as tie
 

@@ -3,7 +3,8 @@ use borrow.Author.Needs.{needs}
 use mathlib.Core.Path.{refl, _∙_}
 use denote.Ref.{now}
 use Rattle.exchange.specs.Steps.{init, countOf, secondOf, positionOf}
-use Rattle.by_value.proofs.ValueLaws.{Sized, value-long, init-size, value-read}
+use Rattle.lent.proofs.AsStep.{init-size}
+use Rattle.by_value.proofs.ValueLaws.{Sized, value-long, value-read}
 use Rattle.server.proofs.read_init.Statement.{statement}
 use Rattle.server.proofs.read_init.Tie as tie
 
