@@ -1,1 +1,2 @@
 pub mod SecretLaws
+pub mod WordLaws
