@@ -148,8 +148,13 @@ build() { # TARGET VARIANT
     mkdir -p "$(dirname "$file")" "$tools/bin"
     ln -sfn "$own/toolchain/lib" "$tools/lib"
     ln -sf "$own/toolchain/bin/llvm-ar" "$own/toolchain/bin/ld.lld" "$tools/bin/"
-    # rattle hands on no environment
-    printf '#!/bin/sh\nPATH="%s" exec sh "%s" "%s" %s %s "$@"\n' "$PATH" "$root/host/clang.sh" "$own/toolchain/bin/clang" "$1" "$2" >"$tools/bin/clang"
+    # rattle hands on no environment; what it hands on stays, for `make measure` to compile again
+    cat >"$tools/bin/clang" <<END
+#!/bin/sh
+export PATH="$PATH"
+cp module.bc "$tools/" && printf '%s\n' "$own/toolchain/bin/clang" "\$@" >"$tools/words" || exit 1
+exec sh "$root/host/clang.sh" "$own/toolchain/bin/clang" $1 $2 "\$@"
+END
     chmod +x "$tools/bin/clang"
     rm -f "$file.key"
     rattle build --crate-checked build/checked --toolchain "$tools" -o "$file.new" >>$log 2>&1 || { tail -n 20 $log; echo "lib: $file not built, see $log"; return 1; }
