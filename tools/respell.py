@@ -87,6 +87,7 @@ def main():
         print(__doc__)
         raise SystemExit(0 if sys.argv[1] in ("-h", "--help") else 2)
     texts = {p: open(p, encoding="utf-8").read() for p in files()}
+    crates = "|".join(sorted(os.listdir("crates")))
     names, fields = dict(OTHER), {}
     for p, t in texts.items():
         if p.endswith(".antt"):
@@ -115,10 +116,17 @@ def main():
             fields[k] += "_is"
 
     def turn(text, rust):
+        # what a file has of another library keeps its name there
+        lent = set()
+        for m in re.finditer(r"^(?:ghost )?use ([^{\s]+)\.\{([^}]*)\}", text, re.M):
+            if not re.match(rf"Rattle\.({crates})\.", m.group(1)):
+                lent |= {part.strip().split(" as ")[0].strip() for part in m.group(2).split(",")}
         declared = {m.start(1) for b in re.finditer(r"^(?:pub |abbrev )*record [^\n]*\n(?:(?:  .*)?\n)*", text, re.M) for m in re.compile(r"^  (?:pub\s+)?([^\s(){}:;,]+)\s:\s", re.M).finditer(text, b.start(), b.end())}
 
         def word(m):
             w = m.group(0)
+            if w in lent:
+                return w
             if rust and "-" in w:
                 return w
             at = m.start()

@@ -1,5 +1,7 @@
 // Numbers as a host hands them in, each 64 bits wide, as the values that the steps take. They are judged as they came and never cut: 257 is
 // no method, 2 is no yes.
+#![tactic(auto)]
+
 ghost use Rattle.std.specs.Prelude.{◌≡◌};
 ghost use Rattle.arguments.specs.Arguments.{is_yes, byte_of, classical_of, wrong_by, kem_of};
 

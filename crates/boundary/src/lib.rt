@@ -1,6 +1,8 @@
 // The C boundary: every entry of the core, exported. Only what every C calling convention agrees on crosses: slices as a pointer and a
 // 64-bit length, pointers to 64-bit numbers and to H's 64 bytes, and 64-bit numbers. A call returns its number; what else it tells goes through
 // lent numbers.
+#![tactic(auto)]
+
 ghost use Rattle.std.specs.Prelude.{◌≡◌, [], ◌∷◌, ◌++◌, cond, length};
 ghost use Rattle.limits.specs.Limits.{h_size, library_version};
 ghost use Rattle.buffers.specs.Bytes.{zeros};

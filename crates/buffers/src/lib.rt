@@ -1,4 +1,6 @@
 // Buffers of bytes: compared, and laid into one another.
+#![tactic(auto)]
+
 ghost use Rattle.std.specs.Prelude.{◌≡◌, ◌+◌, ◌≤◌, length, set};
 ghost use Rattle.buffers.specs.Bytes.{same, laid, eight};
 

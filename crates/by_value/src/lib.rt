@@ -1,5 +1,7 @@
 // What the calls by value stand on: an exchange goes into bytes of its own, the step on bytes is called, and the exchange comes back. Only one whose
 // numbers fit their bytes can go there; no step is due on another.
+#![tactic(auto)]
+
 ghost use Rattle.std.specs.Prelude.{◌≡◌};
 ghost use Rattle.exchange.specs.Steps.{step_number, refused_step};
 ghost use Rattle.by_value.specs.ByValue.{fits_two, fits_bytes, with_exchange, back};

@@ -1,4 +1,6 @@
 // What a step changes in an exchange's bytes, where they are as many as an exchange has; others stay.
+#![tactic(auto)]
+
 ghost use Rattle.std.specs.Prelude.{◌≡◌, ◌+◌, ◌≤◌, length, set};
 ghost use Rattle.buffers.specs.Bytes.{laid};
 ghost use Rattle.stored.specs.Stored.{by_size};

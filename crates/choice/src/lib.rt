@@ -1,5 +1,7 @@
 // The choice from a client's and a server's KEXINIT (RFC 4253, section 7.1): the first client name that counts and stands in the
 // server's list.
+#![tactic(auto)]
+
 ghost use Rattle.std.specs.Prelude.{◌≡◌};
 ghost use Rattle.wire.specs.Parts.{bytes_at, place_at};
 ghost use Rattle.kexinit.specs.Reader.{open_head};
@@ -11,7 +13,7 @@ use wire::Part;
 
 // What a choice hands back: 0 with the method, the host key name's place in the client's payload, and whether each side's next
 // packet is to be ignored; or the number of a refusal and none of them.
-#[derive(Drop)]
+#[derive(Clone, Copy)]
 pub struct Choice {
     pub number: u8,
     pub method: u8,

@@ -1,5 +1,7 @@
 // The client's own steps by value: own C, REPLY read, the verdict. Each takes the exchange and hands back its number, its counts and the
 // exchange as it now is: the step on lent bytes, on bytes of its own.
+#![tactic(auto)]
+
 ghost use Rattle.std.specs.Prelude.{◌≡◌, length};
 ghost use Rattle.messages.specs.Messages.{init_bytes};
 ghost use Rattle.exchange.specs.Steps.{own_c, reply, verdict as verdict_step, number, answered, room_after, output_after};

@@ -1,5 +1,7 @@
 // What a client's names have in common with a server's (RFC 4253, section 7.1), over two cursors: the first of the client's names that
 // counts and stands in the server's list.
+#![tactic(auto)]
+
 ghost use Rattle.std.specs.Prelude.{◌≡◌};
 ghost use Rattle.buffers.specs.Bytes.{same};
 ghost use Rattle.names.specs.Names.{up_to_bad};

@@ -1,4 +1,6 @@
 // A key of a complete exchange, by value: RFC 4253, section 7.2. No step: the exchange is not handed back, for nothing of it changes, and no room is lent.
+#![tactic(auto)]
+
 ghost use Rattle.std.specs.Prelude.{◌≡◌, length};
 ghost use Rattle.exchange.specs.Steps.{output_after};
 ghost use Rattle.keys.specs.Derived.{derive_cause, key_in};

@@ -1,5 +1,7 @@
 // Whether a step is due on an exchange in lent bytes, and a step's number: that the bytes are one's and fit comes first, then the room, then
 // what was fed. Whether the exchange is complete.
+#![tactic(auto)]
+
 ghost use Rattle.std.specs.Prelude.{◌≡◌, ◌≤◌, length, true, ◌&&◌};
 ghost use Rattle.methods.specs.Rows.{row_of};
 ghost use Rattle.methods.specs.declared.KForm.TheVariants.{Mpint};
@@ -202,7 +204,7 @@ pub fn id_fits(len: usize, count: u64) -> bool
     if count == 0 {
         return len == 0;
     }
-    sha2::is_known(len)
+    sha_2::is_known(len)
 }
 
 // Whether the session's numbers fit a stage. Both are read, so that their bytes are known to be below 256.

@@ -1,8 +1,9 @@
 // One key exchange, as a record that goes in by value and comes back: its types. What its steps do is defined in specs/; the code
 // of the steps stands in the crates above.
+#![tactic(auto)]
 
 // How far an exchange has come.
-#[derive(Drop)]
+#[derive(Clone, Copy)]
 pub enum Stage {
     // V_C, V_S, I_C and I_S are in the room.
     Started,
@@ -21,7 +22,7 @@ pub enum Stage {
 }
 
 // The lengths of the fields in the room; 0 where a field is not there.
-#[derive(Drop)]
+#[derive(Clone, Copy)]
 pub struct Lengths {
     pub vc: usize,
     pub vs: usize,
@@ -34,7 +35,7 @@ pub struct Lengths {
 
 // What lasts over the exchanges of one connection: the session identifier, which is the first H of a completed exchange, its length, and how many
 // exchanges were completed. All zeros until the first is.
-#[derive(Drop)]
+#[derive(Clone, Copy)]
 pub struct Session {
     pub id: [u8; limits::H_SIZE],
     pub len: usize,
@@ -43,7 +44,7 @@ pub struct Session {
 
 // An exchange. Role 1 is the client's, 2 the server's. The K record and H are all zeros until the secret step, after a peer's fault, and where an
 // exchange begins again.
-#[derive(Drop)]
+#[derive(Clone, Copy)]
 pub struct Exchange {
     pub stage: Stage,
     pub role: u8,
@@ -55,14 +56,14 @@ pub struct Exchange {
 }
 
 // What the classical primitive gave: nothing, or so many bytes, lent beside it.
-#[derive(Drop)]
+#[derive(Clone, Copy)]
 pub enum Classical {
     Failed,
     Given(usize),
 }
 
 // What the KEM gave.
-#[derive(Drop)]
+#[derive(Clone, Copy)]
 pub enum Kem {
     Absent,
     Failed,
@@ -71,7 +72,7 @@ pub enum Kem {
 
 // What a step answers: its number, its counts (the second only at the signature step), the exchange as it now is, and where a payload
 // that is answered 12 or 13 breaks.
-#[derive(Drop)]
+#[derive(Clone, Copy)]
 pub struct Step {
     pub number: u8,
     pub count: usize,
@@ -81,7 +82,7 @@ pub struct Step {
 }
 
 // What the secret step answers: a step's answer, and H with zeros after it.
-#[derive(Drop)]
+#[derive(Clone, Copy)]
 pub struct SecretStep {
     pub step: Step,
     pub h: [u8; limits::H_SIZE],

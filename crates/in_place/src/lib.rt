@@ -1,5 +1,7 @@
 // The steps on an exchange that is lent and changed in place: each calls the step by value, stores its exchange and answers its number
 // and counts, the secret H too. A contract's parts are those of the step by value.
+#![tactic(auto)]
+
 ghost use Rattle.std.specs.Prelude.{◌≡◌, length};
 ghost use Rattle.exchange.specs.Steps.{init, reply, secret as secret_step, verdict as verdict_step, number, answered, secret_answered, room_after, output_after};
 ghost use Rattle.in_place.specs.InPlace.{in_place_of, secret_in_place, left};
@@ -7,7 +9,7 @@ ghost use Rattle.in_place.specs.InPlace.{in_place_of, secret_in_place, left};
 use exchange::{Classical, Exchange, Kem, SecretStep, Step};
 
 // What a step in place answers: its number, its counts, and where a payload that is answered 12 or 13 breaks.
-#[derive(Drop)]
+#[derive(Clone, Copy)]
 pub struct Counts {
     pub number: u8,
     pub count: usize,
@@ -16,7 +18,7 @@ pub struct Counts {
 }
 
 // What the secret in place answers: H beside them.
-#[derive(Drop)]
+#[derive(Clone, Copy)]
 pub struct SecretCounts {
     pub number: u8,
     pub count: usize,

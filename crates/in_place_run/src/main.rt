@@ -1,6 +1,8 @@
 // Drives a captured exchange, the fields of its standard input, through the steps in place on a copy: as client with a call that is not
 // due, as server, and as server with a peer's fault, twice. For each call it prints the number, the count, the position and a checksum of the
 // room, and for the secret H. What it prints is held to the file `stdout`, which tests/expect_in_place.py computes from the capture.
+#![tactic(auto)]
+
 use exchange::{Classical, Exchange, Kem, Step};
 use libc::{STDIN_FILENO, STDOUT_FILENO};
 use wire::Part;

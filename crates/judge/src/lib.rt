@@ -1,4 +1,6 @@
 // The causes in what a start or a step is handed (SPECIFICATION 9.5 to 9.11), but for the secret step's.
+#![tactic(auto)]
+
 ghost use Rattle.std.specs.Prelude.{◌≡◌, length};
 ghost use Rattle.exchange.specs.Causes.{kexinit_ok, start_cause, own_c_cause, sign_cause, verdict_cause};
 

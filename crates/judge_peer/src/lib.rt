@@ -1,4 +1,6 @@
 // The causes in what the peer sent, INIT and REPLY, by the method (SPECIFICATION 7.3).
+#![tactic(auto)]
+
 ghost use Rattle.std.specs.Prelude.{◌≡◌};
 ghost use Rattle.messages.specs.Payload.{message_cause};
 ghost use Rattle.exchange.specs.Causes.{init_cause, reply_cause};

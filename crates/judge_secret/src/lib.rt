@@ -1,4 +1,6 @@
 // The causes in what the secret step is handed (SPECIFICATION 9.9): the primitives' outcomes, X, K_PQ, a server's K_S and S.
+#![tactic(auto)]
+
 ghost use Rattle.std.specs.Prelude.{◌≡◌};
 ghost use Rattle.wire.specs.Causes.{cause_unless};
 ghost use Rattle.methods.specs.Rows.{row_of};

@@ -2,7 +2,7 @@
 use Prim.Native.Nat.{ℕ, zero, suc, ◌+◌, ◌≤◌, ◌<◌}
 use mathlib.Core.Path.{◌≡◌, refl, sym, ap, ◌∙◌}
 use mathlib.Core.List.{List, [], ◌∷◌, ◌++◌}
-use mathlib.Core.Bool.{Bool, true, false, not, ◌&&◌, and_true, and_false, and_assoc}
+use mathlib.Core.Bool.{Bool, true, false, not, ◌&&◌, and-true, and-false, and_assoc}
 use native.Mathlib.Omega.{arith}
 use native.Mathlib.Numerals.{add-one}
 use lib.ListN.{length, get_or, take, drop, take-append-drop}
@@ -28,7 +28,7 @@ pub plain_at : (v : List ℕ) (i : ℕ) → i < length v → plain (drop i v) �
 plain_at v i h = rw (drop-cons v i 0 h, add-one) (plain_append (get_or v i 0 ∷ []) (drop (suc i) v))
 
 pub plain_one : (b : ℕ) → not (eqb b 0) && not (eqb b 10) && not (eqb b 13) ≡ plain (b ∷ [])
-plain_one b = sym (and_true _)
+plain_one b = sym (and-true _)
 
 -- ---- sixteen bytes, held to one value after another
 
@@ -39,8 +39,8 @@ none x (b ∷ l) = not (eqb b x) && none x l
 
 apart : (a b c p q r : Bool) → a && b && c && (p && q && r) ≡ (a && p) && (b && q) && (c && r)
 apart true true true p q r = refl
-apart true true false p q r = sym (and_false (p && q))
-apart true false c p q r = rw (and_false p)
+apart true true false p q r = sym (and-false (p && q))
+apart true false c p q r = rw (and-false p)
 apart false b c p q r = refl
 
 plain_none : (l : List ℕ) → none 0 l && none 10 l && none 13 l ≡ plain l
@@ -55,7 +55,7 @@ more x v i k zero so = so
 more x v i k (suc n) so = more x v i (suc k) n (so && not (eqb (get_or v (i + k) 0) x))
 
 more_is : (x : ℕ) (v : List ℕ) (i k n : ℕ) (so : Bool) → i + (k + n) ≤ length v → more x v i k n so ≡ so && none x (take n (drop (i + k) v))
-more_is x v i k zero so h = sym (and_true so)
+more_is x v i k zero so h = sym (and-true so)
 more_is x v i k (suc n) so h =
     let t : Bool = not (eqb (get_or v (i + k) 0) x) in
     let e : i + suc k ≡ suc (i + k) = omega arith in

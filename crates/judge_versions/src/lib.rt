@@ -1,4 +1,6 @@
 // V, judged: its length, and that no byte of it is 0, 10 or 13.
+#![tactic(auto)]
+
 ghost use Rattle.std.specs.Prelude.{◌≡◌, [], ◌∷◌, ◌+◌, ◌≤◌, length, take, drop};
 ghost use Rattle.exchange.specs.Causes.{plain, version_ok};
 

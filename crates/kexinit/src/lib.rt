@@ -1,4 +1,6 @@
 // KEXINIT as it is read (RFC 4253, section 7.1): judged whole, and opened for one of its ten name-lists.
+#![tactic(auto)]
+
 ghost use Rattle.std.specs.Prelude.{◌≡◌};
 ghost use Rattle.wire.specs.Parts.{bytes_at, place_at};
 ghost use Rattle.wire.specs.Strings.{string_part};
@@ -24,7 +26,7 @@ const KEXINIT: Layout = Layout {
 
 // A payload judged whole: 0 with its cookie, boolean and reserved number, or 4 or 10 to 13 and none of them; of 12 and 13 also where the
 // payload breaks.
-#[derive(Drop)]
+#[derive(Clone, Copy)]
 pub struct Head {
     pub number: u8,
     pub cookie: Part,
@@ -34,7 +36,7 @@ pub struct Head {
 }
 
 // A payload opened for one list, with a cursor at the list's beginning. A refusal's cursor yields only the end.
-#[derive(Drop)]
+#[derive(Clone, Copy)]
 pub struct Opened {
     pub head: Head,
     pub cursor: Cursor,

@@ -1,4 +1,6 @@
 // RFC 4253, section 7.2: a key of a complete exchange in lent bytes, laid into the caller's. Deriving is no step: the exchange is only read.
+#![tactic(auto)]
+
 ghost use Rattle.std.specs.Prelude.{◌≡◌, true, List, ◌∷◌, ◌++◌, ℕ, ◌+◌, ◌≤◌, length, take};
 ghost use Rattle.limits.specs.Limits.{k_size, h_size, key_most, hash_most};
 ghost use Rattle.buffers.specs.Bytes.{over, laid};
@@ -27,7 +29,7 @@ fn hash(kind: usize, a: &[u8], b: &[u8]) -> [u8; limits::H_SIZE]
     requires { (known kind ≡ true) × (length a.now + length b.now ≤ hash_most) }
     ensures { result ≡ sized h_size (sha2 kind (a.now ++ b.now)) }
 {
-    let d = sha2::hash_of(kind, a, b);
+    let d = sha_2::hash_of(kind, a, b);
     d.bytes
 }
 

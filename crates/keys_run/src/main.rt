@@ -1,6 +1,8 @@
 // Published keys of RFC 4253, section 7.2, by value. Standard input has for each a letter and a length in a byte each, and a complete exchange in
 // its bytes; a line of standard output has the key. What it prints is held to the file `stdout`, the keys as they were published, and their
 // beginnings (tests/expect_keys.py).
+#![tactic(auto)]
+
 use libc::{STDIN_FILENO, STDOUT_FILENO};
 use wire::Part;
 

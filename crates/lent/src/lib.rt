@@ -1,5 +1,7 @@
 // What a step does to an exchange in lent bytes and to the room: a refusal and a peer's fault, an exchange made, C that joins, K_S and S
 // around it, K handed out. Bytes of another size stay, and count as having no lengths and no K; no step gets here with them.
+#![tactic(auto)]
+
 ghost use Rattle.std.specs.Prelude.{◌≡◌, ◌+◌, ◌++◌, length, drop, if◌then◌else◌, nat_eq, slice_index, slice_set};
 ghost use Rattle.buffers.specs.Bytes.{zeros, laid};
 ghost use Rattle.wire.specs.Strings.{number_at};

@@ -1,5 +1,7 @@
 // Beginning again on an exchange in lent bytes that is complete: the same role and the V's that stand in the room, any method, a new I_C and I_S. Bytes
 // that no exchange has are answered 1 and stay; every refusal changes nothing.
+#![tactic(auto)]
+
 ghost use Rattle.std.specs.Prelude.{◌≡◌, [], length};
 ghost use Rattle.buffers.specs.Bytes.{laid};
 ghost use Rattle.transcript.specs.Fields.{field, field_size, size_sum};

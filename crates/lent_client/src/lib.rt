@@ -1,5 +1,7 @@
 // The client's own steps on an exchange in lent bytes: own C, REPLY read, the verdict. Each is lent the bytes and the room, judges for
 // itself, returns its number and tells its counts or places through lent numbers. Bytes that no exchange has are answered 1 and stay.
+#![tactic(auto)]
+
 ghost use Rattle.std.specs.Prelude.{◌≡◌, [], ◌∷◌, ◌≤◌, length};
 ghost use Rattle.buffers.specs.Bytes.{onto};
 ghost use Rattle.messages.specs.Position.{position};

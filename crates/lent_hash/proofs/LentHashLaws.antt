@@ -14,7 +14,7 @@ use Rattle.sha_words.specs.Blocks.{word_at}
 use Rattle.sha_words.specs.Message.{bytes_of}
 use Rattle.sha_words.proofs.PaddingLaws.{length_bytes_of}
 use Rattle.sha_words.proofs.ValueLaws.{word_read}
-use Rattle.sha2.specs.declared.Hash.{Hash}
+use Rattle.sha_2.specs.declared.Hash.{Hash}
 use Rattle.lent_hash.specs.LentHash.{state_bytes, state_in, by_hash_size}
 
 -- ---- by size

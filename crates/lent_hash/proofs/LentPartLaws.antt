@@ -13,12 +13,12 @@ use Rattle.buffers.specs.Bytes.{Bytes}
 use Rattle.sha_words.specs.Constants.{known}
 use Rattle.sha_words.specs.Message.{bytes_of, sha2, sized}
 use Rattle.sha_words.proofs.PaddingLaws.{length_bytes_of}
-use Rattle.sha2.specs.declared.Hash.{Hash}
-use Rattle.sha2.specs.declared.Fed.{Fed}
-use Rattle.sha2.specs.declared.Digest.{Digest}
-use Rattle.sha2.specs.Hash.{fresh, blank, started, fits, taken, fed, finished, fed_all, AllTaken, all_of}
-use Rattle.sha2.proofs.PartLaws.{fed_empty, fed_fed, fed_first, fed_past, taken_total}
-use Rattle.sha2.proofs.WholeLaws.{taken_tail, taken_value, taken_held, fresh_value, parts_taken, fed_parts}
+use Rattle.sha_2.specs.declared.Hash.{Hash}
+use Rattle.sha_2.specs.declared.Fed.{Fed}
+use Rattle.sha_2.specs.declared.Digest.{Digest}
+use Rattle.sha_2.specs.Hash.{fresh, blank, started, fits, taken, fed, finished, fed_all, AllTaken, all_of}
+use Rattle.sha_2.proofs.PartLaws.{fed_empty, fed_fed, fed_first, fed_past, taken_total}
+use Rattle.sha_2.proofs.WholeLaws.{taken_tail, taken_value, taken_held, fresh_value, parts_taken, fed_parts}
 use Rattle.lent_hash.specs.LentHash.{state_bytes, state_in, HashLeft, hash_left, hash_start_left, hash_feed_left, hash_finish_left, hash_feed_all_left, HashAllTaken}
 use Rattle.lent_hash.proofs.LentHashLaws.{size_taken, Typed, typed_in, state_back, bytes_back}
 

@@ -5,8 +5,8 @@ use Rattle.limits.specs.Limits.{h_size, hash_size}
 use Rattle.buffers.specs.Bytes.{zeros}
 use Rattle.sha_words.specs.Blocks.{word_at}
 use Rattle.sha_words.specs.Message.{bytes_of}
-use Rattle.sha2.specs.Hash.{started, fed, finished}
-use Rattle.sha2.specs.declared.Hash.{Hash}
+use Rattle.sha_2.specs.Hash.{started, fed, finished}
+use Rattle.sha_2.specs.declared.Hash.{Hash}
 
 -- ---- the bytes: the kind, both counts in eight bytes each, the hash value, what waits
 

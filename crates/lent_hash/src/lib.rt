@@ -1,10 +1,12 @@
 // A hash in bytes that a host lends: started, fed and finished. Bytes of another size than a hash's are answered 4 and stay.
+#![tactic(auto)]
+
 ghost use Rattle.std.specs.Prelude.{◌≡◌, ◌+◌, ◌≤◌, length};
 ghost use Rattle.limits.specs.Limits.{hash_size};
 ghost use Rattle.sha_words.specs.Blocks.{word_at};
 ghost use Rattle.lent_hash.specs.LentHash.{state_bytes, state_in, hash_left, hash_start_left, hash_feed_left, hash_finish_left};
 
-use sha2::Hash;
+use sha_2::Hash;
 
 // Where a hash's parts stand; its kind stands first.
 const TOTAL_AT: usize = 1;
@@ -72,7 +74,7 @@ pub fn start(h: &mut [u8], kind: usize) -> u8
     if h.len() != limits::HASH_SIZE {
         return 4;
     }
-    let s = sha2::start(kind);
+    let s = sha_2::start(kind);
     let state = s.hash;
     store(h, state);
     s.number
@@ -86,7 +88,7 @@ pub fn feed(h: &mut [u8], part: &[u8]) -> u8
         return 4;
     }
     let before = load(h);
-    let s = sha2::feed(before, part);
+    let s = sha_2::feed(before, part);
     if s.number != 0 {
         return s.number;
     }
@@ -104,7 +106,7 @@ pub fn finish(h: &[u8], digest: &mut [u8; limits::H_SIZE]) -> u8
         return 4;
     }
     let state = load(h);
-    let d = sha2::finish(state);
+    let d = sha_2::finish(state);
     let bytes = d.bytes;
     *digest = bytes;
     d.number

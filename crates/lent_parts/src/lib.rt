@@ -1,5 +1,7 @@
 // Calls on an exchange in lent bytes that are no steps: the places of INIT's and REPLY's strings, how far the exchange has come, and its session. Nothing
 // changes but what is told.
+#![tactic(auto)]
+
 ghost use Rattle.std.specs.Prelude.{◌≡◌, [], ◌∷◌, cond};
 ghost use Rattle.buffers.specs.Bytes.{zeros, laid};
 ghost use Rattle.exchange.specs.Steps.{init, reply, number, step_part};

@@ -1,5 +1,7 @@
 // The server's own steps on an exchange in lent bytes: INIT read, the signature. Each is lent the bytes and the room, judges for itself,
 // returns its number and tells its places or counts through lent numbers. Bytes that no exchange has are answered 1 and stay.
+#![tactic(auto)]
+
 ghost use Rattle.std.specs.Prelude.{◌≡◌, [], ◌∷◌, ◌≤◌, length};
 ghost use Rattle.buffers.specs.Bytes.{onto};
 ghost use Rattle.messages.specs.Position.{position};

@@ -17,9 +17,9 @@ use Rattle.wire.proofs.PartLaws.{inside_fits}
 use Rattle.sha_words.specs.Message.{sha2, sized}
 use Rattle.sha_words.proofs.DigestLaws.{length_sha2}
 use Rattle.sha_words.proofs.SizedLaws.{length_sized, take_sized}
-use Rattle.sha2.specs.Hash.{digested}
-use Rattle.sha2.specs.declared.Digest.{Digest}
-use Rattle.sha2.proofs.WholeLaws.{digested_known}
+use Rattle.sha_2.specs.Hash.{digested}
+use Rattle.sha_2.specs.declared.Digest.{Digest}
+use Rattle.sha_2.proofs.WholeLaws.{digested_known}
 use Rattle.methods.specs.Rows.{row_of, k_most}
 use Rattle.methods.proofs.FormLaws.{length_most_lem}
 use Rattle.methods.specs.declared.KForm.{KForm}

@@ -1,6 +1,8 @@
 // The steps that both roles take on an exchange in lent bytes: the start and the secret. Each is lent the bytes and the room, judges for
 // itself and returns its number. A start takes bytes of an exchange's size, whatever they hold, and answers 1 to others, which stay; the secret answers 1 on
 // bytes that no exchange has.
+#![tactic(auto)]
+
 ghost use Rattle.std.specs.Prelude.{◌+◌, ◌≤◌, ◌≡◌, [], ◌∷◌, ◌++◌, true, cond, eqb, length, take, set};
 ghost use Rattle.limits.specs.Limits.{hash_most, server};
 ghost use Rattle.buffers.specs.Bytes.{onto, laid};
@@ -91,7 +93,7 @@ fn k_by_method(method: u8, x: &[u8], k_pq: &[u8]) -> Secret
         return secret::k_of(form, x, k_pq);
     };
     let len = methods::digest_len(method);
-    let d = sha2::hash_of(len, k_pq, x);
+    let d = sha_2::hash_of(len, k_pq, x);
     let bytes = d.bytes;
     secret::k_of(form, x, wire::part_of(&bytes, Part { start: 0, len }))
 }
@@ -115,7 +117,7 @@ fn h_of(method: u8, room: &[u8], n: usize) -> [u8; limits::H_SIZE]
     requires { (method_ok method ≡ true) × (n ≤ length room.now) × (n ≤ hash_most) }
     ensures { result ≡ h_of method (take n room.now) }
 {
-    let d = sha2::hash_of(methods::digest_len(method), &room[..n], &room[..0]);
+    let d = sha_2::hash_of(methods::digest_len(method), &room[..n], &room[..0]);
     d.bytes
 }
 

@@ -1,7 +1,7 @@
 -- Laws of `and`. Assumes nothing.
 use mathlib.Core.Path.{◌≡◌, refl, sym, ◌∙◌}
 use mathlib.Core.Bool.{Bool, true, false, not, ◌&&◌, false≢true}
-use borrow.Author.Tests.{not_true, not-false}
+use borrow.Author.Tests.{not-true, not-false}
 
 pub and_true : (a b : Bool) → a && b ≡ true → (a ≡ true) × (b ≡ true)
 and_true true b e = (refl, e)
@@ -20,4 +20,4 @@ module _ {t s : Bool} (e : t ≡ s) where
   holds h = sym e ∙ not-false t h
 
   pub fails : not t ≡ true → s ≡ false
-  fails h = sym e ∙ not_true t h
+  fails h = sym e ∙ not-true t h

@@ -1,5 +1,7 @@
 // The specification's sizes (docs/SPECIFICATION.md, 6) and the boundary's own, one table for every layer above, and whether a number lies between two of them. specs/Limits.antt
 // has the same table for the contracts.
+#![tactic(auto)]
+
 ghost use Rattle.std.specs.Prelude.{◌≡◌};
 ghost use Rattle.limits.specs.Range.{within};
 

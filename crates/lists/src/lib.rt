@@ -1,5 +1,7 @@
 // KEXINIT written from ten lists that stand one behind another in one buffer, with a table of their ends: a host hands in two pointers
 // where there were twenty, and learns which list is bad.
+#![tactic(auto)]
+
 ghost use Rattle.std.specs.Prelude.{◌≡◌, [], ◌∷◌, cond, ◌+◌, ◌≤◌, length};
 ghost use Rattle.limits.specs.Limits.{list_count};
 ghost use Rattle.buffers.specs.Bytes.{laid};

@@ -1,4 +1,6 @@
 // What a host looks up of a method: its sizes and rules, and its name.
+#![tactic(auto)]
+
 ghost use Rattle.std.specs.Prelude.{◌≡◌, cond, length};
 ghost use Rattle.methods.specs.Rows.{row_of, name_of};
 ghost use Rattle.writers.specs.Writers.{wrote, leaves};

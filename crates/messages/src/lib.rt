@@ -1,12 +1,14 @@
 // Payloads of fixed bytes and a run of strings, judged whole; and the two messages of a key exchange (RFC 5656, section 4; RFC 8731): INIT
 // is byte 30 and the string C, REPLY is byte 31 and the strings K_S, S and signature.
+#![tactic(auto)]
+
 ghost use Rattle.std.specs.Prelude.{◌≡◌};
 ghost use Rattle.messages.specs.Payload.{judged};
 ghost use Rattle.messages.specs.Position.{breaks_at, position as position_in};
 
 // How a payload is laid out: the most bytes it may have, its message number, where its strings begin, how many they are, and how many
 // bytes follow them, of which so many are a boolean.
-#[derive(Drop)]
+#[derive(Clone, Copy)]
 pub struct Layout {
     pub most: usize,
     pub byte: u8,
@@ -35,7 +37,7 @@ pub const REPLY: Layout = Layout {
 };
 
 // A payload judged whole: 0 and where its strings end, or 10 to 13 and 0.
-#[derive(Drop)]
+#[derive(Clone, Copy)]
 pub struct Judged {
     pub number: u8,
     pub place: usize,

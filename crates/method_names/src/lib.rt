@@ -1,4 +1,6 @@
 // The names of the methods, one behind another: a search and a copy that take no row.
+#![tactic(auto)]
+
 ghost use Rattle.std.specs.Prelude.{◌≡◌, ◌+◌, ◌≤◌, length, get_or, take, drop};
 ghost use Rattle.buffers.specs.Bytes.{same, laid};
 ghost use Rattle.methods.specs.Rows.{row_of, name_of, number_of};

@@ -1,18 +1,20 @@
 // The table of methods (SPECIFICATION 5.1), a row for each number, with the sizes and rules of its exchange: its columns, and the form of a public
 // value. The rows themselves are in specs/Rows.antt.
+#![tactic(auto)]
+
 ghost use Rattle.std.specs.Prelude.{◌≡◌};
 ghost use Rattle.methods.specs.Rows.{hybrid, row_of};
 ghost use Rattle.methods.specs.Form.{length_fits, lead_fits, formed};
 
 // How K stands in the hash input: X as an mpint, or a hybrid's digest as a string.
-#[derive(Drop)]
+#[derive(Clone, Copy)]
 pub enum KForm {
     Mpint,
     Digest,
 }
 
 // A public value, C or S: its length on the wire, where its classical part begins, and whether that is a NIST point.
-#[derive(Drop)]
+#[derive(Clone, Copy)]
 pub struct Shape {
     pub len: usize,
     pub classical: usize,
@@ -20,7 +22,7 @@ pub struct Shape {
 }
 
 // A method's row, for the specifications alone. The name stands at the array's beginning, zeros after it. Number 0 is no method.
-#[derive(Drop)]
+#[derive(Clone, Copy)]
 pub struct Method {
     pub number: u8,
     pub name: [u8; 28],

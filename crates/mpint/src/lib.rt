@@ -1,4 +1,6 @@
 // The SSH mpint (RFC 4251, section 5): a string whose body is the shortest two's complement, the highest byte first.
+#![tactic(auto)]
+
 ghost use Rattle.std.specs.Prelude.{◌≡◌, ◌≤◌, length, drop};
 ghost use Rattle.wire.specs.Parts.{bytes_at, place_at};
 ghost use Rattle.writers.specs.Writers.{wrote, leaves, string_cause};
@@ -8,7 +10,7 @@ use wire::Part;
 use writers::Written;
 
 // The mpint at the front of an input: 0 with its sign, its body and what follows it, or 12 or 22.
-#[derive(Drop)]
+#[derive(Clone, Copy)]
 pub struct MpintRead {
     pub number: u8,
     pub sign: i8,

@@ -1,4 +1,6 @@
 // The SSH name-list (RFC 4251, section 5): names parted by single commas, read one at a time by a cursor that goes by value.
+#![tactic(auto)]
+
 ghost use Rattle.std.specs.Prelude.{◌≡◌, ◌+◌, ◌-◌, ◌≤◌, length, take, drop};
 ghost use Rattle.names.specs.Names.{good_name, good_list, first_name};
 ghost use Rattle.names.specs.Cursor.{next_name, names_cause};
@@ -7,7 +9,7 @@ use wire::Part;
 
 // A place in a list: the next name begins at `at`, and the list ends at `end`. Behind the last name `at` is past `end`, so that the
 // empty name after a trailing comma is still ahead.
-#[derive(Drop)]
+#[derive(Clone, Copy)]
 pub struct Cursor {
     pub at: usize,
     pub end: usize,
@@ -15,7 +17,7 @@ pub struct Cursor {
 
 // What a cursor finds: 0 with a name's place and the cursor behind it; at the end 0 and the same cursor; at a bad name 19
 // and the same cursor.
-#[derive(Drop)]
+#[derive(Clone, Copy)]
 pub struct Next {
     pub number: u8,
     pub found: bool,

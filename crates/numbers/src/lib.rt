@@ -1,4 +1,6 @@
 // Numbers of 32 and of 64 bits as bytes, the highest first (FIPS 180-4, section 3.1), and back.
+#![tactic(auto)]
+
 ghost use Rattle.std.specs.Prelude.{◌≡◌, ◌+◌, ◌*◌};
 ghost use Rattle.sha_words.specs.Message.{bytes_of};
 

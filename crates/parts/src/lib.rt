@@ -1,5 +1,7 @@
 // The parts of INIT and REPLY, by calls that are no steps: what a step would be handed, on the same exchange, room and payload. Nothing
 // changes.
+#![tactic(auto)]
+
 ghost use Rattle.std.specs.Prelude.{◌≡◌};
 ghost use Rattle.wire.specs.Parts.{bytes_at, place_at};
 ghost use Rattle.exchange.specs.Steps.{init, reply, number, step_part};

@@ -1,4 +1,6 @@
 // KEXINIT as it is written (RFC 4253, section 7.1).
+#![tactic(auto)]
+
 ghost use Rattle.std.specs.Prelude.{◌≡◌, [], ◌∷◌, cond, ◌+◌, ◌≤◌, length};
 ghost use Rattle.buffers.specs.Bytes.{laid};
 ghost use Rattle.wire.specs.Strings.{string, strings};

@@ -1,5 +1,7 @@
 // The shared secret K as it stands in the hash input: X as an mpint (RFC 8731, section 3.1; RFC 5656, section 4), or a hybrid's
 // digest as a string, kept in a record of fixed size.
+#![tactic(auto)]
+
 ghost use Rattle.std.specs.Prelude.{◌≡◌, ◌∷◌, ◌++◌, ◌+◌, ◌*◌, ◌≤◌, length, get_or};
 ghost use Rattle.buffers.specs.Bytes.{zeros};
 ghost use Rattle.wire.specs.Strings.{string};
@@ -9,7 +11,7 @@ ghost use Rattle.secret.specs.Secret.{leading_zeros, k_bytes, kept};
 use methods::KForm;
 
 // 0 with K's length and the K record, zeros after K's end; or 4 and zeros, where K is longer than the record.
-#[derive(Drop)]
+#[derive(Clone, Copy)]
 pub struct Secret {
     pub number: u8,
     pub len: usize,

@@ -1,5 +1,7 @@
 // The server's own steps by value: INIT read, the signature. Each takes the exchange and hands back its number, its counts and the exchange
 // as it now is: the step on lent bytes, on bytes of its own.
+#![tactic(auto)]
+
 ghost use Rattle.std.specs.Prelude.{◌≡◌, length};
 ghost use Rattle.exchange.specs.Steps.{init, sign as sign_step, number, answered, room_after, reply_of, output_after};
 

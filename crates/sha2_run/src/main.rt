@@ -1,6 +1,8 @@
 // NIST's messages for SHA-256, SHA-384 and SHA-512, each hashed whole, and in parts of 1, 2, 3, .. bytes. Standard input has for each message
 // its kind in a byte, its length in eight, and its bytes; a line of standard output has both digests. What it prints is held to the file
 // `stdout`, the digests that NIST published (tests/expect_sha2.py).
+#![tactic(auto)]
+
 ghost use Rattle.std.specs.Prelude.{◌≤◌};
 
 use libc::{STDIN_FILENO, STDOUT_FILENO};
@@ -46,29 +48,29 @@ fn least(a: usize, b: usize) -> usize
 }
 
 fn whole(kind: u8, m: &[u8]) {
-    let s = sha2::start(kind as usize);
+    let s = sha_2::start(kind as usize);
     let h = s.hash;
-    let x = sha2::feed(h, m);
+    let x = sha_2::feed(h, m);
     let f = x.hash;
-    let d = sha2::finish(f);
+    let d = sha_2::finish(f);
     let bytes = d.bytes;
     put_digest(bytes, kind, b" ");
 }
 
 fn in_parts(kind: u8, m: &[u8]) {
-    let s = sha2::start(kind as usize);
+    let s = sha_2::start(kind as usize);
     let mut h = s.hash;
     let mut at = 0;
     let mut k = 1;
     while at < m.len() {
         let n = least(k, m.len() - at);
         let to = at + n;
-        let x = sha2::feed(h, &m[at..to]);
+        let x = sha_2::feed(h, &m[at..to]);
         h = x.hash;
         at = to;
         k += 1;
     }
-    let d = sha2::finish(h);
+    let d = sha_2::finish(h);
     let bytes = d.bytes;
     put_digest(bytes, kind, b"\n");
 }

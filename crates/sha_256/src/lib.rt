@@ -1,4 +1,6 @@
 // FIPS 180-4, sections 4.1 and 6.2.2: the block function of SHA-256, on words of 32 bits. A hash value goes in and comes back as bytes.
+#![tactic(auto)]
+
 ghost use Rattle.std.specs.Prelude.{◌≡◌, ◌+◌, ◌*◌, ◌≤◌, length};
 ghost use Rattle.sha_words.specs.Words.{Σ0, Σ1, σ0, σ1};
 ghost use Rattle.sha_words.specs.Constants.{bits32};
@@ -9,7 +11,7 @@ ghost use Rattle.sha_256.specs.Variables.{working};
 use std::num::wrapping_add_u32;
 
 // The working variables.
-#[derive(Drop)]
+#[derive(Clone, Copy)]
 pub struct Variables {
     pub a: u32,
     pub b: u32,

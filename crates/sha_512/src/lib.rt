@@ -1,4 +1,6 @@
 // FIPS 180-4, sections 4.1 and 6.4.2: the block function of SHA-384 and SHA-512, on words of 64 bits. A hash value goes in and comes back as bytes.
+#![tactic(auto)]
+
 ghost use Rattle.std.specs.Prelude.{◌≡◌, ◌+◌, ◌*◌, ◌≤◌, length};
 ghost use Rattle.sha_words.specs.Words.{Σ0, Σ1, σ0, σ1};
 ghost use Rattle.sha_words.specs.Constants.{bits64};
@@ -9,7 +11,7 @@ ghost use Rattle.sha_512.specs.Variables.{working};
 use std::num::wrapping_add_u64;
 
 // The working variables.
-#[derive(Drop)]
+#[derive(Clone, Copy)]
 pub struct Variables {
     pub a: u64,
     pub b: u64,

@@ -1,5 +1,7 @@
 // FIPS 180-4, section 4.2: the constants K_t of SHA-256, and of SHA-384 and SHA-512. A `match` becomes a table in flash; an array would be built on the
 // stack at each use.
+#![tactic(auto)]
+
 ghost use Rattle.std.specs.Prelude.{◌≡◌, get_or};
 ghost use Rattle.sha_words.specs.Constants.{K256, K512};
 

@@ -1,5 +1,7 @@
 // What both roles call, by value: the start, the secret, and beginning again. Each hands back its number, its counts and the exchange as it now
 // is, the secret H too: the call on lent bytes, on bytes of its own.
+#![tactic(auto)]
+
 ghost use Rattle.std.specs.Prelude.{◌≡◌, length};
 ghost use Rattle.exchange.specs.Steps.{secret as secret_step, secret_answered, room_after, started, started_room};
 ghost use Rattle.exchange.specs.Again.{again_answered, again_room};

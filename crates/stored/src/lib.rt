@@ -1,6 +1,8 @@
 // An exchange as the bytes that a host lends for it: the mark of the layout, stage, fail number, role and method a byte each, seven
 // lengths of two bytes, the highest first, K and H; then the session: the identifier's length in two bytes, the count in eight, the identifier. What a
 // step reads of them.
+#![tactic(auto)]
+
 ghost use Rattle.std.specs.Prelude.{◌≡◌, ◌+◌, ◌*◌, ◌≤◌, ◌<◌, length, get_or};
 ghost use Rattle.limits.specs.Limits.{exchange_size};
 ghost use Rattle.stored.specs.Stored.{stage_number, fail_number, stage_of, marks_fit, fits as fitting, number16, number64, Halves, LengthBytes, CountBytes, decoded, lengths_told, k_kept, h_kept, id_len_told, count_told, id_kept};

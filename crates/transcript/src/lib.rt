@@ -1,5 +1,7 @@
 // The transcript as it is built in a lent buffer, which the specification calls the room: fields as strings one behind another, a field put
 // in ahead of another, and all of it wiped.
+#![tactic(auto)]
+
 ghost use Rattle.std.specs.Prelude.{◌≡◌, [], ◌∷◌, ◌+◌, ◌≤◌, length, take, drop};
 ghost use Rattle.buffers.specs.Bytes.{zeros, over, laid};
 ghost use Rattle.transcript.specs.Fields.{field, field_size, size_sum, around};

@@ -1,4 +1,6 @@
 // An exchange by value from the bytes that are lent for one, and into them. No step needs it: steps read and change the bytes.
+#![tactic(auto)]
+
 ghost use Rattle.std.specs.Prelude.{◌≡◌, ◌++◌};
 ghost use Rattle.buffers.specs.Bytes.{laid};
 ghost use Rattle.exchange.specs.Record.{no_session};

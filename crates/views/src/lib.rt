@@ -1,5 +1,7 @@
 // A list of a KEXINIT as a view over the lent payload: the slice, a cursor that yields its names one at a time, and what opening gave
 // beside it. Each function is thin, over a covered one that takes the slice and the cursor.
+#![tactic(auto)]
+
 ghost use Rattle.std.specs.Prelude.{◌≡◌, length};
 ghost use Rattle.wire.specs.Parts.{inside, bytes_at, place_at};
 ghost use Rattle.names.specs.Cursor.{next_name};
@@ -9,7 +11,7 @@ ghost use Rattle.views.specs.View.{opened_by, yielded, left_by};
 use kexinit::Head;
 use names::{Cursor, Next};
 
-#[derive(Drop)]
+#[derive(Clone, Copy)]
 pub struct View<'a> {
     pub payload: &'a [u8],
     pub cursor: Cursor,

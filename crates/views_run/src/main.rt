@@ -1,5 +1,7 @@
 // Opens a view on every list of the payloads of its standard input and yields the names to where they stop, each call beside the same
 // call of the covered reader. What it prints is held to the file `stdout`, which tests/expect_views.py computes.
+#![tactic(auto)]
+
 use kexinit::Head;
 use libc::{STDIN_FILENO, STDOUT_FILENO};
 use names::{Cursor, Next};

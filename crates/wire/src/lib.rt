@@ -1,17 +1,19 @@
 // The SSH string (RFC 4251, section 5) as it is read, alone and in a run of strings, and the place of a part in an input.
+#![tactic(auto)]
+
 ghost use Rattle.std.specs.Prelude.{◌≡◌, ◌*◌, ◌+◌, length};
 ghost use Rattle.wire.specs.Parts.{inside, bytes_at, place_at};
 ghost use Rattle.wire.specs.Strings.{number_at, field_at, walk, string_part, read_string};
 
 // The place of a part in an input, counted from the input's first byte. A refusal's parts are empty, at 0.
-#[derive(Drop)]
+#[derive(Clone, Copy)]
 pub struct Part {
     pub start: usize,
     pub len: usize,
 }
 
 // A string inside an input: 0 and its body's place, or 12.
-#[derive(Drop)]
+#[derive(Clone, Copy)]
 pub struct Field {
     pub number: u8,
     pub start: usize,
@@ -19,14 +21,14 @@ pub struct Field {
 }
 
 // Where a run of strings ends, with 0; or 12 and where the one that passes the end begins.
-#[derive(Drop)]
+#[derive(Clone, Copy)]
 pub struct Walk {
     pub number: u8,
     pub place: usize,
 }
 
 // The string at the front of an input: 0 with its body and what follows it, or 12.
-#[derive(Drop)]
+#[derive(Clone, Copy)]
 pub struct StringRead {
     pub number: u8,
     pub body: Part,

@@ -1,11 +1,13 @@
 // The SSH string (RFC 4251, section 5) as it is written: bytes laid into a lent buffer, and what a writer answers.
+#![tactic(auto)]
+
 ghost use Rattle.std.specs.Prelude.{◌≡◌, length};
 ghost use Rattle.buffers.specs.Bytes.{laid};
 ghost use Rattle.wire.specs.Strings.{bytes32, string};
 ghost use Rattle.writers.specs.Writers.{wrote, leaves, string_cause};
 
 // What a writer answers: 0 and the bytes written, or the number of a refusal and 0.
-#[derive(Drop)]
+#[derive(Clone, Copy)]
 pub struct Written {
     pub number: u8,
     pub count: usize,

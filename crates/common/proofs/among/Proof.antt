@@ -1,7 +1,7 @@
 -- `common::among` meets its contract. Assumes nothing.
 use mathlib.Core.Path.{◌≡◌, refl, sym, ap, ◌∙◌}
 use lib.ListN.{length}
-use borrow.Author.Tests.{not_true, not-false}
+use borrow.Author.Tests.{not-true, not-false}
 use Rattle.buffers.specs.Bytes.{same}
 use Rattle.names.specs.Cursor.{ahead}
 use Rattle.names.proofs.CursorLaws.{found}
@@ -27,7 +27,7 @@ returns c =
     let l = c.before.before.before in
     let s = l.before.before.before.args.server.now in
     let n = l.before.before.before.args.name.now in
-    sym (has_none n s l.loop.to _ c.before.before.next-name.ensures (not_true _ c.if1.true)) ∙ l.loop.invariant
+    sym (has_none n s l.loop.to _ c.before.before.next-name.ensures (not-true _ c.if1.true)) ∙ l.loop.invariant
 
 part-of-requires : tie.Need-part-of-requires invariant-loop decreases-loop
 part-of-requires c κs = tt

@@ -4,7 +4,7 @@ use mathlib.Core.Path.{◌≡◌, refl, sym, ap, ◌∙◌}
 use mathlib.Core.List.{List, ◌∷◌}
 use mathlib.Core.Logic.{⊎_elim}
 use lib.ListN.{length}
-use borrow.Author.Tests.{not_true, not-false}
+use borrow.Author.Tests.{not-true, not-false}
 use Rattle.buffers.specs.Bytes.{same}
 use Rattle.names.specs.Cursor.{ahead}
 use Rattle.names.proofs.CursorLaws.{found, stopped}
@@ -88,7 +88,7 @@ search-again c =
     let q : number_of f.name ≡ c.before.before.number_of_lem.result = sym (c.before.before.number_of_lem.ensures ∙ ap number_of e) in
     let d : method_in any (f.name ∷ names_from k c.before.before.before.before.before.before.before.next-name.result.cursor) u ≡ method_in any (names_from k c.before.before.before.before.before.before.before.next-name.result.cursor) u =
     ⊎_elim
-    (λ p. method_absent u f.name _ (ap (λ (m : List ℕ). has m u) (sym e) ∙ sym p.1.inv ∙ has_none n v p.1.to _ p.2.ensures (not_true _ p.4.taken)))
+    (λ p. method_absent u f.name _ (ap (λ (m : List ℕ). has m u) (sym e) ∙ sym p.1.inv ∙ has_none n v p.1.to _ p.2.ensures (not-true _ p.4.taken)))
     (λ p. method_other u f.name _ (q ∙ p.left))
     c.before.if2.branch in
     sym (ap (λ (l : List (List ℕ)). method_in any l u) (name_first k o.search.at _ f) ∙ d) ∙ o.search.invariant
@@ -99,7 +99,7 @@ returns c =
     let a = o.before.before.before.args in
     let k = a.client.now in
     let u = names_from a.server.now a.s in
-    sym (ap (λ (l : List (List ℕ)). method_in any l u) (stopped k o.search.at _ c.before.before.next-name.ensures (not_true _ c.if1.true)).1 ∙ method_none u) ∙ o.search.invariant
+    sym (ap (λ (l : List (List ℕ)). method_in any l u) (stopped k o.search.at _ c.before.before.next-name.ensures (not-true _ c.if1.true)).1 ∙ method_none u) ∙ o.search.invariant
 
 returns_2 : tie.Need-returns-2 invariant-loop decreases-loop invariant-search decreases-search
 returns_2 c =

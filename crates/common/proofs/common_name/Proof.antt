@@ -3,7 +3,7 @@ use Prim.Native.Nat.{ℕ}
 use mathlib.Core.Path.{◌≡◌, refl, sym, ap, ◌∙◌}
 use mathlib.Core.List.{List}
 use lib.ListN.{length}
-use borrow.Author.Tests.{not_true, not-false}
+use borrow.Author.Tests.{not-true, not-false}
 use Rattle.names.specs.Cursor.{ahead}
 use Rattle.names.proofs.CursorLaws.{found}
 use Rattle.common.specs.Common.{has, common_part}
@@ -30,7 +30,7 @@ returns c =
     let a = l.before.before.before.args in
     let k = a.client.now in
     let u = names_from a.server.now a.s in
-    sym (common_none u k l.loop.at _ c.before.before.next-name.ensures (not_true _ c.if1.true)) ∙ l.loop.invariant
+    sym (common_none u k l.loop.at _ c.before.before.next-name.ensures (not-true _ c.if1.true)) ∙ l.loop.invariant
 
 part-of-requires : tie.Need-part-of-requires invariant-loop decreases-loop
 part-of-requires c κs = tt

@@ -1,5 +1,5 @@
 -- `judge::verdict_cause` meets its contract. Assumes nothing.
-use borrow.Author.Tests.{not_true, not-false}
+use borrow.Author.Tests.{not-true, not-false}
 use Rattle.judge.proofs.JudgeLaws.{verdict_short, verdict_bad, verdict_good}
 use Rattle.judge.proofs.verdict_cause.Statement.{statement}
 use Rattle.judge.proofs.verdict_cause.Tie as tie
@@ -12,12 +12,12 @@ returns c =
 returns_2 : tie.Need-returns-2
 returns_2 c =
     let a = c.before.before.args in
-    verdict_bad a.signature a.host_key_is a.k-out c.before.if1.false (rw (not_true a.signature c.if2.true))
+    verdict_bad a.signature a.host_key_is a.k-out c.before.if1.false (rw (not-true a.signature c.if2.true))
 
 returns_3 : tie.Need-returns-3
 returns_3 c =
     let a = c.before.before.before.args in
-    verdict_bad a.signature a.host_key_is a.k-out c.before.before.if1.false (rw (not-false a.signature c.before.if2.false, not_true a.host_key_is c.if3.true))
+    verdict_bad a.signature a.host_key_is a.k-out c.before.before.if1.false (rw (not-false a.signature c.before.if2.false, not-true a.host_key_is c.if3.true))
 
 returns-4 : tie.Need-returns-4
 returns-4 c =

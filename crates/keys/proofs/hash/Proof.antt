@@ -3,8 +3,8 @@ use mathlib.Core.Path.{ap, ◌∙◌}
 use native.Mathlib.Omega.{arith}
 use mathlib.Core.List.{◌++◌}
 use lib.ListN.{length-append}
-use Rattle.sha2.specs.declared.Digest.{Digest}
-use Rattle.sha2.proofs.WholeLaws.{digested_known}
+use Rattle.sha_2.specs.declared.Digest.{Digest}
+use Rattle.sha_2.proofs.WholeLaws.{digested_known}
 use borrow.Author.Rules.{rules}
 use Rattle.keys.proofs.hash.Statement.{statement}
 use Rattle.keys.proofs.hash.Tie as tie

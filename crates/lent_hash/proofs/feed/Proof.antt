@@ -5,9 +5,9 @@ use Rattle.lent_hash.proofs.LentHashLaws.{size_taken, size_left}
 use mathlib.Core.Bool.{cond}
 use lib.Dec.{eqb}
 use borrow.Author.Tests.{eq-eqb, ne_eqb}
-use Rattle.sha2.specs.declared.Fed.{Fed}
-use Rattle.sha2.specs.declared.Hash.{Hash}
-use Rattle.sha2.specs.Hash.{fed}
+use Rattle.sha_2.specs.declared.Fed.{Fed}
+use Rattle.sha_2.specs.declared.Hash.{Hash}
+use Rattle.sha_2.specs.Hash.{fed}
 use borrow.Author.Rules.{rules}
 use Rattle.lent_hash.proofs.feed.Statement.{statement}
 use Rattle.lent_hash.proofs.feed.Tie as tie

@@ -2,8 +2,8 @@
 use mathlib.Core.Path.{ap, ◌∙◌}
 use Rattle.lent_hash.specs.LentHash.{hash_left, hash_finish_left}
 use Rattle.lent_hash.proofs.LentHashLaws.{size_taken, size_left}
-use Rattle.sha2.specs.declared.Digest.{Digest}
-use Rattle.sha2.specs.Hash.{finished}
+use Rattle.sha_2.specs.declared.Digest.{Digest}
+use Rattle.sha_2.specs.Hash.{finished}
 use borrow.Author.Rules.{rules}
 use Rattle.lent_hash.proofs.finish.Statement.{statement}
 use Rattle.lent_hash.proofs.finish.Tie as tie

@@ -2,7 +2,7 @@
 use mathlib.Core.Path.{ap, ◌∙◌}
 use Rattle.lent_hash.specs.LentHash.{hash_left, state_bytes, hash_start_left}
 use Rattle.lent_hash.proofs.LentHashLaws.{size_taken, size_left}
-use Rattle.sha2.specs.declared.Fed.{Fed}
+use Rattle.sha_2.specs.declared.Fed.{Fed}
 use borrow.Author.Rules.{rules}
 use Rattle.lent_hash.proofs.start.Statement.{statement}
 use Rattle.lent_hash.proofs.start.Tie as tie

@@ -1,6 +1,6 @@
 -- `methods::lead_fits` meets its contract. Assumes nothing.
 use borrow.Author.Rules.{rules}
-use borrow.Author.Tests.{not_true, not-false}
+use borrow.Author.Tests.{not-true, not-false}
 use lib.ListN.{get_or-eq_default}
 use Rattle.methods.specs.Form.{lead_fits}
 use Rattle.methods.proofs.lead_fits.Statement.{statement}
@@ -8,7 +8,7 @@ use Rattle.methods.proofs.lead_fits.Tie as tie
 
 returns : tie.Need-returns
 unfolding lead_fits
-returns c = let p = not_true c.before.before.args.h.point c.if1.true in rw p
+returns c = let p = not-true c.before.before.args.h.point c.if1.true in rw p
 
 shared-slice-read-result : tie.Need-shared-slice-read-result
 shared-slice-read-result c = search rules

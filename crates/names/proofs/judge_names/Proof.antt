@@ -2,7 +2,7 @@
 use mathlib.Core.Path.{◌≡◌, refl, ap, ◌∙◌}
 use native.Mathlib.Omega.{arith}
 use lib.ListN.{length}
-use borrow.Author.Tests.{not_true, not-false}
+use borrow.Author.Tests.{not-true, not-false}
 use Rattle.names.specs.Cursor.{ahead, names_cause}
 use Rattle.names.proofs.CursorLaws.{found, stopped, judge_next}
 use Rattle.names.proofs.judge_names.Statement.{statement}
@@ -24,7 +24,7 @@ returns : tie.Need-returns invariant-loop decreases-loop
 returns c =
     let l = c.before.before.before in
     let s = l.before.before.args.s.now in
-    (stopped s l.loop.at _ c.before.before.next-name.ensures (not_true _ c.if1.true)).0 ∙ l.loop.invariant
+    (stopped s l.loop.at _ c.before.before.next-name.ensures (not-true _ c.if1.true)).0 ∙ l.loop.invariant
 
 loop-less : tie.Need-loop-smaller invariant-loop decreases-loop
 loop-less c =
