@@ -46,7 +46,7 @@ row_in_at k (r ∷ rs) e (suc i) h =
     let n = eqb-true r.number k a.0 in
     let m : k + suc i ≡ suc k + i = omega arith in
     let t : eqb (suc k + i) r.number ≡ false = ne_eqb (suc k + i) r.number (λ q. omega arith) in
-    rw (m, t) (row_in_at (suc k) rs a.1 i (omega arith))
+    ap (λ (j : ℕ). row_in j (r ∷ rs)) m ∙ rw t (row_in_at (suc k) rs a.1 i (omega arith))
 
 -- ---- rows
 

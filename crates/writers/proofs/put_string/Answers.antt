@@ -1,0 +1,38 @@
+-- `writers::put_string` meets its contract. Assumes nothing.
+use borrow.Author.Rules.{rules}
+use Prim.Native.Nat.{ℕ, ◌+◌}
+use mathlib.Core.Path.{sym, ap, ◌∙◌}
+use mathlib.Core.List.{List}
+use native.Mathlib.Omega.{arith}
+use Rattle.buffers.specs.Bytes.{laid}
+use Rattle.wire.specs.Strings.{string}
+use Rattle.buffers.proofs.ByteLaws.{laid_kept}
+use Rattle.wire.proofs.StringLaws.{length_string}
+use Rattle.writers.proofs.WriterLaws.{laid_string}
+use Rattle.writers.proofs.put_string.Goals as goal
+
+pub returns-then-out-at : goal.returns-then-out-at
+returns-then-out-at c =
+    let a = c.args in
+    let n = length_string a.body.now in
+    sym (laid_kept a.out.now a.at (string a.body.now) (omega arith))
+
+pub returns-then-out-at-lt4 : goal.returns-then-out-at-lt4
+returns-then-out-at-lt4 c =
+    let a = c.args in
+    let n = length_string a.body.now in
+    sym (laid_kept a.out.now a.at (string a.body.now) (omega arith))
+
+pub returns-then-out-at-2 : goal.returns-then-out-at-2
+returns-then-out-at-2 c =
+    let a = c.args in
+    let n = length_string a.body.now in
+    sym (laid_kept a.out.now a.at (string a.body.now) (omega arith))
+
+pub returns : goal.returns
+returns c =
+    let a = c.args in
+    let n = length_string a.body.now in
+    c.put_bytes.ensures
+    ∙ ap (λ (l : List ℕ). laid l (a.at + 4) a.body.now) c.put_u32.ensures
+    ∙ laid_string a.out.now a.at a.body.now (omega arith)
