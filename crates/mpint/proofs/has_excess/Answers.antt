@@ -1,5 +1,4 @@
 -- `mpint::has_excess` meets its contract. Assumes nothing.
-use borrow.Author.Rules.{rules}
 use borrow.Author.Tests.{eq-eqb, ne_eqb}
 use native.Mathlib.Omega.{arith}
 use Rattle.mpint.proofs.MpintLaws.{excess_none, excess_one, excess_two}

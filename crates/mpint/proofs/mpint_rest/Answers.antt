@@ -1,5 +1,4 @@
 -- `mpint::mpint_rest` meets its contract. Assumes nothing.
-use borrow.Author.Rules.{rules}
 use mathlib.Core.Path.{ap}
 use Rattle.wire.proofs.PartLaws.{part_read}
 use Rattle.mpint.specs.declared.MpintRead.{MpintRead}

@@ -1,5 +1,4 @@
 -- `mpint::read_mpint` meets its contract. Assumes nothing.
-use borrow.Author.Rules.{rules}
 use borrow.Author.Rules.{sfits_of}
 use mathlib.Core.Path.{◌≡◌, sym, ap, ◌∙◌}
 use mathlib.Core.Bool.{true}
@@ -44,7 +43,7 @@ returns-then-has_excess c =
 pub returns : goal.returns
 returns c =
     let s = c.args.s.now in
-    let z = to_z-of_z {w = w8} {z = c.sign_of.result} (sfits_of {w = w8} c.sign_of.type-inv) in
+    let z = to_z-of_z {w = w8} {z = c.sign_of.result} (sfits_of {w = w8} c.sign_of.type_inv) in
     let g : to_z w8 (of_z w8 c.sign_of.result) ≡ sign_of (body_of s) = z ∙ c.sign_of.ensures ∙ ap sign_of (body_bytes (goal.at.returns c).After-has_excess) in
     let e = c.read_string-f.ensures in
     (λ i. record { number = 0; sign = g i; body = (e i).body; rest = (e i).rest }) ∙ mpint_found s (is_whole (goal.at.returns c).After-has_excess) (body-excess (goal.at.returns c).After-has_excess ∙ c.if-has_excess.false)

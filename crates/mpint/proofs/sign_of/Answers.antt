@@ -1,5 +1,4 @@
 -- `mpint::sign_of` meets its contract. Assumes nothing.
-use borrow.Author.Rules.{rules}
 use borrow.Author.Tests.{lt-ltb, le-ltb}
 use native.Mathlib.Omega.{arith}
 use Rattle.mpint.proofs.MpintLaws.{sign_none, sign_some}

@@ -1,11 +1,7 @@
-use borrow.Author.Rules.{rules}
-use Prim.Native.Nat.{◌+◌, ◌-◌, ◌≤◌, ◌<◌}
-use mathlib.Core.Path.{◌≡◌, refl, sym, ap, ◌∙◌}
-use native.Mathlib.Omega.{arith}
+use Prim.Native.Nat.{◌-◌, ◌≤◌}
+use mathlib.Core.Path.{◌≡◌}
 use lib.ListN.{length, drop}
-use Rattle.buffers.proofs.ByteLaws.{tail_part}
-use Rattle.mpint.specs.Mpint.{excess, shortest}
-use Rattle.mpint.proofs.MpintLaws.{shortest_at, shortest_done}
+use Rattle.mpint.specs.Mpint.{shortest}
 use Rattle.mpint.proofs.spare.Given as goal
 
 abbrev pub invariant-loop-i : goal.invariant-loop-i

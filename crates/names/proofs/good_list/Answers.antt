@@ -1,5 +1,4 @@
 -- `names::good_list` meets its contract. Assumes nothing.
-use borrow.Author.Rules.{rules}
 use Rattle.names.proofs.CursorLaws.{good_none, good_judged}
 use Rattle.names.proofs.good_list.Goals as goal
 

@@ -1,5 +1,5 @@
 -- `names::good_name` meets its contract. Assumes nothing.
-use Prim.Native.Nat.{◌+◌, ◌-◌, ◌≤◌, ◌<◌}
+use Prim.Native.Nat.{◌+◌, ◌<◌}
 use mathlib.Core.Path.{◌≡◌, sym, ap, ◌∙◌}
 use mathlib.Core.Bool.{Bool, false, ◌&&◌}
 use native.Mathlib.Omega.{arith}
@@ -12,11 +12,11 @@ use Rattle.names.proofs.good_name.Goals as goal
 
 -- a byte that no name has
 bad : (l : At-loop-i) →
-    let s = l.before.before.before.args.s.now in
-    l.loop.i < length s → name_byte (get_or s l.loop.i 0) ≡ false → false ≡ good_name s
+    let s = l.args.s.now in
+    l.loop-i.i < length s → name_byte (get_or s l.loop-i.i 0) ≡ false → false ≡ good_name s
 bad l h e =
-    let s = l.before.before.before.args.s.now in
-    sym (sym l.loop.invariant.1 ∙ every_at name_byte s l.loop.i h ∙ ap (λ (t : Bool). t && every name_byte (drop (l.loop.i + 1) s)) e)
+    let s = l.args.s.now in
+    sym (sym l.loop-i.invariant.1 ∙ every_at name_byte s l.loop-i.i h ∙ ap (λ (t : Bool). t && every name_byte (drop (l.loop-i.i + 1) s)) e)
 
 pub returns-then-s-lt1 : goal.returns-then-s-lt1
 returns-then-s-lt1 c = good_empty c.args.s.now c.if-s-lt1.true

@@ -1,9 +1,8 @@
 -- `names::judge_names` meets its contract. Assumes nothing.
-use mathlib.Core.Path.{◌≡◌, refl, ap, ◌∙◌}
+use mathlib.Core.Path.{refl, ap, ◌∙◌}
 use native.Mathlib.Omega.{arith}
 use lib.ListN.{length}
 use borrow.Author.Tests.{not-true, not-false}
-use Rattle.names.specs.Cursor.{ahead, names_cause}
 use Rattle.names.proofs.CursorLaws.{found, stopped, judge_next}
 use Rattle.names.proofs.judge_names.Goals as goal
 

@@ -1,9 +1,6 @@
-use mathlib.Core.Path.{◌≡◌, refl, ap, ◌∙◌}
-use native.Mathlib.Omega.{arith}
+use mathlib.Core.Path.{◌≡◌}
 use lib.ListN.{length}
-use borrow.Author.Tests.{not-true, not-false}
 use Rattle.names.specs.Cursor.{ahead, names_cause}
-use Rattle.names.proofs.CursorLaws.{found, stopped, judge_next}
 use Rattle.names.proofs.judge_names.Given as goal
 
 abbrev pub invariant-loop-n : goal.invariant-loop-n
