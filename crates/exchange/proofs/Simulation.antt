@@ -546,7 +546,7 @@ run : (room : List ℕ) (b : Book) (e : Exchange) (room' : List ℕ) (qs : List 
 run room b e room' [] h s = (refl, s)
 run room b e room' (q ∷ qs) h s =
     let a = turn room b e room' q h s in
-    let t = run room _ _ _ qs h a.1 in
+    let t = run room (turn_noted (length room) b q) (turn_after e room' q) (turn_room e room' q) qs h a.1 in
     (ap₂ ◌∷◌ a.0 t.0, t.1)
 
 -- ---- no number is 3 where the room is long enough
@@ -580,7 +580,7 @@ turn_not3 l b (again m ic is) h = again_not3 l b m ic is h
 
 never_3 : (l : ℕ) (b : Book) (qs : List Turn) → room_least ≤ l → Never 3 (causes l b qs)
 never_3 l b [] h = tt
-never_3 l b (q ∷ qs) h = (turn_not3 l b q h, never_3 l _ qs h)
+never_3 l b (q ∷ qs) h = (turn_not3 l b q h, never_3 l (turn_noted l b q) qs h)
 
 -- ---- after a fault
 
