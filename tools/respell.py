@@ -18,6 +18,8 @@ ALIAS = re.compile(r"([^\s{},]+) as ([^\s{},;]+)")
 FORM = re.compile(r"^use |^ghost use ")
 # a fact, so a type: upper camel case
 TYPES = {"pads": "Pads"}
+# variables that a clause shows: no field gives way to them
+VARIABLES = {"k_pq", "k_out", "host_key", "list_good", "reply_fits", "is_c"}
 # names that would take another's
 # and variables that a clause shows
 OTHER = {"kPq": "k_pq", "kOut": "k_out", "hostKey": "host_key", "listGood": "list_good", "replyFits": "reply_fits", "isC": "is_c", "length_most": "length_most_lem", "bytes_after": "bytes_after_lem", "inPlace": "in_place_of", "start_left": "start_left_lem", "k-size": "k_size_lem", "k-length": "k_length_lem"}
@@ -107,6 +109,7 @@ def main():
     # a lemma that would have its definition's name
     held = {v for k, v in names.items() if "-" not in k} | {n for p, t in texts.items() if "/specs/" in p and p.endswith(".antt") for n in named(t)[0]}
     held |= {n for p, t in texts.items() if p.endswith(".antt") for n in named(t)[0] if "-" not in n}
+    held -= VARIABLES
     for k in names:
         if "-" in k and names[k] in held and k not in fields:
             names[k] += "_lem"
@@ -140,7 +143,7 @@ def main():
                 return fields.get(w, w)
             if w in fields and re.match(r"\s+=\s", text[m.end():]) and re.search(r"(?:[{;]\s*|\n\s+)$", text[:at]):
                 return fields[w]
-            return names.get(w, w)
+            return names.get(w, fields.get(w, w) if "-" in w else w)
 
         return WORD.sub(word, text)
 

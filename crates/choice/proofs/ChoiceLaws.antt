@@ -202,9 +202,9 @@ module _ (client server : List ℕ) (a : payload_cause client ≡ 0) (b : payloa
       }
 
   -- the bytes at its place are the first of the client's names that stands in the server's list
-  pub host_key_is : bytes_at client (host_key_from client server) ≡ common every_name (list_names client 2) (list_names server 2)
+  pub host_key : bytes_at client (host_key_from client server) ≡ common every_name (list_names client 2) (list_names server 2)
   unfolding first_common
-  host_key_is = placed.bytes
+  host_key = placed.bytes
 
   -- and so it is empty, which is 21, exactly where there is no such name
   pub host_key_length : (host_key_from client server).len ≡ length (common every_name (list_names client 2) (list_names server 2))
@@ -328,7 +328,7 @@ module _ (allowed : ℕ → Bool) (client server : List ℕ) where
   pub host_key_chosen : choice_cause allowed client server ≡ 0 → bytes_at client (chosen allowed client server).host_key ≡ common every_name (list_names client 2) (list_names server 2)
   host_key_chosen z =
       let g = choice_known z in
-      ap (λ (x : Choice). bytes_at client x.host_key) (chosen_found z) ∙ host_key_is client server g.0 g.1
+      ap (λ (x : Choice). bytes_at client x.host_key) (chosen_found z) ∙ host_key client server g.0 g.1
 
   -- the host key name's place lies within the client's payload, a refusal's too
   pub host_key_within : (chosen allowed client server).host_key.start + (chosen allowed client server).host_key.len ≤ length client

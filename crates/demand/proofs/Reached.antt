@@ -6,7 +6,7 @@ use mathlib.Core.List.{List, [], ◌∷◌}
 use mathlib.Core.Bool.{Bool, true}
 use lib.ListN.{length, length-replicate}
 use base.Fml.{Lft, GName}
-use denote.Ref.{MutBor}
+use denote.Ref.{Bor, MutBor}
 use Rattle.buffers.specs.Bytes.{zeros}
 use Rattle.messages.specs.Messages.{init_bytes}
 use Rattle.limits.specs.Limits.{room_least}
@@ -36,21 +36,25 @@ module _ (l : Lft) (g : GName) where
   lent : List ℕ → MutBor (List ℕ)
   lent x = record { ref_ptr = (0, 0); ghost_name = g; now = x }
 
+  -- and one that is only read
+  read : List ℕ → Bor (List ℕ)
+  read x = record { ref_ptr = (0, 0); now = x }
+
   -- one call with outputs in hand, and then the rest of the run
   module _ (e : Exchange) (room : List ℕ) (qs : List Turn) where
     own_c_then : (c out : List ℕ) → let q = own_c c (length out) in Reaches (exchange_after e room q) (room_after e room q) qs → Reaches e room (step q ∷ qs)
-    unfolding answered lent
+    unfolding answered lent read
     own_c_then c out h =
-        own_c_lem (l, (l, (l, tt))) (e, (lent room, (lent c, (lent out, tt)))) (answered e room (own_c c (length out)))
-        (e, (lent (room_after e room (own_c c (length out))), (lent c, (lent (output_after (number e room (own_c c (length out))) out (init_bytes c)), tt))))
+        own_c_lem (l, (l, (l, tt))) (e, (lent room, (read c, (lent out, tt)))) (answered e room (own_c c (length out)))
+        (e, (lent (room_after e room (own_c c (length out))), (read c, (lent (output_after (number e room (own_c c (length out))) out (init_bytes c)), tt))))
         (refl, refl, refl) h
 
     sign_then : (g out k_out : List ℕ) → let q = sign g (length out) (length k_out) in Reaches (exchange_after e room q) (room_after e room q) qs → Reaches e room (step q ∷ qs)
-    unfolding answered lent
+    unfolding answered lent read
     sign_then g out k_out h =
         let q : Call = sign g (length out) (length k_out) in
-        give_sign (l, (l, (l, (l, tt)))) (e, (lent room, (lent g, (lent out, (lent k_out, tt))))) (answered e room q)
-        (e, (lent room, (lent g, (lent (output_after (number e room q) out (reply_of e room g)), (lent (output_after (number e room q) k_out e.k), tt)))))
+        give_sign (l, (l, (l, (l, tt)))) (e, (read room, (read g, (lent out, (lent k_out, tt))))) (answered e room q)
+        (e, (read room, (read g, (lent (output_after (number e room q) out (reply_of e room g)), (lent (output_after (number e room q) k_out e.k), tt)))))
         (refl, refl, refl)
         (subst
         (λ (room₁ : List ℕ). History (exchange_after e room q) room₁ qs (numbers_of (exchange_after e room q) (room_after e room q) qs)
@@ -67,19 +71,19 @@ module _ (l : Lft) (g : GName) where
 
   -- the definitions' run is a history: outputs of zeros have every length
   pub reached : (e : Exchange) (room : List ℕ) (qs : List Turn) → Reaches e room qs
-  unfolding answered secret_answered again_answered lent
+  unfolding answered secret_answered again_answered lent read
   reached e room [] = no_call
   reached e room (step (own_c c out) ∷ qs) =
       subst (λ (n : ℕ). Reaches e room (step (own_c c n) ∷ qs)) (length_zeros out) (own_c_then e room qs c (zeros out) (reached _ _ qs))
   reached e room (step (init p) ∷ qs) =
-      read_init (l, (l, tt)) (e, (lent room, (lent p, tt))) (answered e room (init p)) (e, (lent (room_after e room (init p)), (lent p, tt)))
+      read_init (l, (l, tt)) (e, (lent room, (read p, tt))) (answered e room (init p)) (e, (lent (room_after e room (init p)), (read p, tt)))
       (refl, refl) (reached (exchange_after e room (init p)) (room_after e room (init p)) qs)
   reached e room (step (reply p) ∷ qs) =
-      read_reply (l, (l, tt)) (e, (lent room, (lent p, tt))) (answered e room (reply p)) (e, (lent (room_after e room (reply p)), (lent p, tt)))
+      read_reply (l, (l, tt)) (e, (lent room, (read p, tt))) (answered e room (reply p)) (e, (lent (room_after e room (reply p)), (read p, tt)))
       (refl, refl) (reached (exchange_after e room (reply p)) (room_after e room (reply p)) qs)
   reached e room (step (secret cl x kem k_pq ks s) ∷ qs) =
-      take_secret (l, (l, (l, (l, (l, tt))))) (e, (lent room, (cl, (lent x, (kem, (lent k_pq, (lent ks, (lent s, tt)))))))) (secret_answered e room (secret cl x kem k_pq ks s))
-      (e, (lent (room_after e room (secret cl x kem k_pq ks s)), (cl, (lent x, (kem, (lent k_pq, (lent ks, (lent s, tt))))))))
+      take_secret (l, (l, (l, (l, (l, tt))))) (e, (lent room, (cl, (read x, (kem, (read k_pq, (read ks, (read s, tt)))))))) (secret_answered e room (secret cl x kem k_pq ks s))
+      (e, (lent (room_after e room (secret cl x kem k_pq ks s)), (cl, (read x, (kem, (read k_pq, (read ks, (read s, tt))))))))
       (refl, refl) (reached (exchange_after e room (secret cl x kem k_pq ks s)) (room_after e room (secret cl x kem k_pq ks s)) qs)
   reached e room (step (sign g out k_out) ∷ qs) =
       subst (λ (n : ℕ). Reaches e room (step (sign g n k_out) ∷ qs)) (length_zeros out)
@@ -87,7 +91,7 @@ module _ (l : Lft) (g : GName) where
   reached e room (step (verdict a b k_out) ∷ qs) =
       subst (λ (n : ℕ). Reaches e room (step (verdict a b n) ∷ qs)) (length_zeros k_out) (verdict_then e room qs a b (zeros k_out) (reached _ _ qs))
   reached e room (again m ic is ∷ qs) =
-      begin_again (l, (l, (l, tt))) (e, (lent room, (m, (lent ic, (lent is, tt))))) (again_answered e (length room) m ic is) (e, (lent (again_room e room m ic is), (m, (lent ic, (lent is, tt)))))
+      begin_again (l, (l, (l, tt))) (e, (lent room, (m, (read ic, (read is, tt))))) (again_answered e (length room) m ic is) (e, (lent (again_room e room m ic is), (m, (read ic, (read is, tt)))))
       (refl, refl) (reached (again_after e (length room) m ic is) (again_room e room m ic is) qs)
 
   -- a start with no cause against it, and any list of calls after it
@@ -95,11 +99,11 @@ module _ (l : Lft) (g : GName) where
       → let e = (started role m vc vs ic is (length room)).exchange in
       let o = started_room role m vc vs ic is room in
       Told (opened role m vc vs ic is) room qs (numbers_of e o qs) (last_exchange e o qs) (last_room e o qs)
-  unfolding lent started
+  unfolding lent read started
   told_of role m vc vs ic is room qs z =
-      start_then (l, (l, (l, (l, (l, tt))))) (role, (m, (lent vc, (lent vs, (lent ic, (lent is, (lent room, tt)))))))
+      start_then (l, (l, (l, (l, (l, tt))))) (role, (m, (read vc, (read vs, (read ic, (read is, (lent room, tt)))))))
       (started role m vc vs ic is (length room))
-      (role, (m, (lent vc, (lent vs, (lent ic, (lent is, (lent (started_room role m vc vs ic is room), tt)))))))
+      (role, (m, (read vc, (read vs, (read ic, (read is, (lent (started_room role m vc vs ic is room), tt)))))))
       (refl, refl) (rw z) (reached (started role m vc vs ic is (length room)).exchange (started_room role m vc vs ic is room) qs)
 
   -- for each role and method one ends complete

@@ -87,54 +87,58 @@ module _ (l : Lft) (g : GName) where
   lent : List ℕ → MutBor (List ℕ)
   lent x = record { ref_ptr = (0, 0); ghost_name = g; now = x }
 
-  one : ℕ → Bor ℕ
+  -- and one that is only read
+  read : List ℕ → Bor (List ℕ)
+  read x = record { ref_ptr = (0, 0); now = x }
+
+  one : ℕ → MutBor ℕ
   one n = record { ref_ptr = (0, 0); ghost_name = g; now = n }
 
   -- one call with what it is lent in hand, and then the rest of the run
   module _ (m : ℕ) (x : Exchange) (h : Storable x) (room : List ℕ) (qs : List Turn) where
     own_c_then : (c out : List ℕ) → let q = own_c c (length out) in Reaches m (exchange_after x room q) (room_after x room q) qs → Reaches m x room (step q ∷ qs)
-    unfolding lent one tells
+    unfolding lent read one tells
     own_c_then c out k =
         let q : Call = own_c c (length out) in
-        own_c_lem (l, (l, (l, (l, (l, tt))))) (lent (encoded x), (lent room, (lent c, (lent out, (one 0, tt))))) (number x room q)
-        (lent (encoded (exchange_after x room q)), (lent (room_after x room q), (lent c, (lent (output_after (number x room q) out (init_bytes c)), (one (answered x room q).count, tt)))))
+        own_c_lem (l, (l, (l, (l, (l, tt))))) (lent (encoded x), (lent room, (read c, (lent out, (one 0, tt))))) (number x room q)
+        (lent (encoded (exchange_after x room q)), (lent (room_after x room q), (read c, (lent (output_after (number x room q) out (init_bytes c)), (one (answered x room q).count, tt)))))
         (as_called x room q (out ∷ []) h) k
 
     init_then : (p : List ℕ) → Reaches m (exchange_after x room (init p)) (room_after x room (init p)) qs → Reaches m x room (step (init p) ∷ qs)
-    unfolding lent
+    unfolding lent read
     init_then p k =
         let q : Call = init p in
-        read_init (l, (l, (l, (l, tt)))) (lent (encoded x), (lent room, (lent p, (lent (zeros 3), tt)))) (number x room q)
-        (lent (encoded (exchange_after x room q)), (lent (room_after x room q), (lent p, (lent (tells x room q ++ position (number x room q) init_layout p ∷ []), tt))))
+        read_init (l, (l, (l, (l, tt)))) (lent (encoded x), (lent room, (read p, (lent (zeros 3), tt)))) (number x room q)
+        (lent (encoded (exchange_after x room q)), (lent (room_after x room q), (read p, (lent (tells x room q ++ position (number x room q) init_layout p ∷ []), tt))))
         (position_behind (as_called x room q [] h) refl) k
 
     reply_then : (p : List ℕ) → Reaches m (exchange_after x room (reply p)) (room_after x room (reply p)) qs → Reaches m x room (step (reply p) ∷ qs)
-    unfolding lent
+    unfolding lent read
     reply_then p k =
         let q : Call = reply p in
-        read_reply (l, (l, (l, (l, tt)))) (lent (encoded x), (lent room, (lent p, (lent (zeros 7), tt)))) (number x room q)
-        (lent (encoded (exchange_after x room q)), (lent (room_after x room q), (lent p, (lent (tells x room q ++ position (number x room q) reply_layout p ∷ []), tt))))
+        read_reply (l, (l, (l, (l, tt)))) (lent (encoded x), (lent room, (read p, (lent (zeros 7), tt)))) (number x room q)
+        (lent (encoded (exchange_after x room q)), (lent (room_after x room q), (read p, (lent (tells x room q ++ position (number x room q) reply_layout p ∷ []), tt))))
         (position_behind (as_called x room q [] h) refl) k
 
     secret_then : x.method ≡ m → (gv n : ℕ) (v : List ℕ) (km : ℕ) (k_pq ks s : List ℕ) → let q = secret (classical_of gv n) v (kem_of m km) k_pq ks s in
         Reaches m (exchange_after x room q) (room_after x room q) qs → Reaches m x room (step q ∷ qs)
-    unfolding lent one tells
+    unfolding lent read one tells
     secret_then j gv n v km k_pq ks s k =
         let told : ℕ → Call = λ (i : ℕ). secret (classical_of gv n) v (kem_of i km) k_pq ks s in
         let q = told m in
         let w = ap (λ (i : ℕ). lent_call (encoded x) room (told i) []) (sym (method_there (encoded x) x m refl h j)) in
         take_secret (l, (l, (l, (l, (l, (l, (l, (l, tt))))))))
-        (lent (encoded x), (lent room, (gv, (n, (lent v, (km, (lent k_pq, (lent ks, (lent s, (one 0, (lent (zeros h_size), tt))))))))))) (number x room q)
-        (lent (encoded (exchange_after x room q)), (lent (room_after x room q), (gv, (n, (lent v, (km, (lent k_pq, (lent ks, (lent s, (one (answered x room q).count, (lent (handed_h x room q), tt)))))))))))
+        (lent (encoded x), (lent room, (gv, (n, (read v, (km, (read k_pq, (read ks, (read s, (one 0, (lent (zeros h_size), tt))))))))))) (number x room q)
+        (lent (encoded (exchange_after x room q)), (lent (room_after x room q), (gv, (n, (read v, (km, (read k_pq, (read ks, (read s, (one (answered x room q).count, (lent (handed_h x room q), tt)))))))))))
         (as_called x room q [] h ∙ w) k
 
     sign_then : (sg out k_out : List ℕ) → let q = sign sg (length out) (length k_out) in Reaches m (exchange_after x room q) (room_after x room q) qs → Reaches m x room (step q ∷ qs)
-    unfolding lent tells
+    unfolding lent read tells
     sign_then sg out k_out k =
         let q : Call = sign sg (length out) (length k_out) in
         let r = sign_room x room sg (length out) (length k_out) in
-        give_sign (l, (l, (l, (l, (l, (l, tt)))))) (lent (encoded x), (lent room, (lent sg, (lent out, (lent k_out, (lent (zeros 2), tt)))))) (number x room q)
-        (lent (encoded (exchange_after x room q)), (lent room, (lent sg, (lent (output_after (number x room q) out (reply_of x room sg)), (lent (output_after (number x room q) k_out x.k), (lent (tells x room q), tt))))))
+        give_sign (l, (l, (l, (l, (l, (l, tt)))))) (lent (encoded x), (read room, (read sg, (lent out, (lent k_out, (lent (zeros 2), tt)))))) (number x room q)
+        (lent (encoded (exchange_after x room q)), (read room, (read sg, (lent (output_after (number x room q) out (reply_of x room sg)), (lent (output_after (number x room q) k_out x.k), (lent (tells x room q), tt))))))
         (subst (λ (room₁ : List ℕ). left (number x room q) (tells x room q) (encoded (exchange_after x room q)) room₁ (output_after (number x room q) out (reply_of x room sg) ∷ output_after (number x room q) k_out x.k ∷ []) ≡ lent_call (encoded x) room q (out ∷ k_out ∷ [])) r (as_called x room q (out ∷ k_out ∷ []) h))
         (subst
         (λ (room₁ : List ℕ). History m (encoded (exchange_after x room q)) room₁ qs (numbers_of (exchange_after x room q) (room_after x room q) qs)
@@ -151,10 +155,10 @@ module _ (l : Lft) (g : GName) where
 
     again_then : (m' : ℕ) (ic is : List ℕ) → Reaches (running m (again_number x (length room) m' ic is) m') (again_after x (length room) m' ic is) (again_room x room m' ic is) qs
         → Reaches m x room (again m' ic is ∷ qs)
-    unfolding lent
+    unfolding lent read
     again_then m' ic is k =
-        begin_again (l, (l, (l, (l, tt)))) (lent (encoded x), (lent room, (m', (lent ic, (lent is, tt))))) (again_number x (length room) m' ic is)
-        (lent (encoded (again_after x (length room) m' ic is)), (lent (again_room x room m' ic is), (m', (lent ic, (lent is, tt)))))
+        begin_again (l, (l, (l, (l, tt)))) (lent (encoded x), (lent room, (m', (read ic, (read is, tt))))) (again_number x (length room) m' ic is)
+        (lent (encoded (again_after x (length room) m' ic is)), (lent (again_room x room m' ic is), (m', (read ic, (read is, tt)))))
         (as_again x room m' ic is h) k
 
   -- outputs of zeros have every length
@@ -185,12 +189,12 @@ module _ (l : Lft) (g : GName) where
       → let e = (started role m vc vs ic is (length room)).exchange in
       let o = started_room role m vc vs ic is room in
       Told (opened role m vc vs ic is) room qs (numbers_of e o qs) (encoded (last_exchange e o qs)) (last_room e o qs)
-  unfolding lent start_left
+  unfolding lent read start_left
   told_of role m vc vs ic is room qs z =
       let t = started role m vc vs ic is (length room) in
-      start_then (l, (l, (l, (l, (l, (l, tt)))))) (lent (zeros exchange_size), (role, (m, (lent vc, (lent vs, (lent ic, (lent is, (lent room, tt))))))))
+      start_then (l, (l, (l, (l, (l, (l, tt)))))) (lent (zeros exchange_size), (role, (m, (read vc, (read vs, (read ic, (read is, (lent room, tt))))))))
       t.number
-      (lent (encoded t.exchange), (role, (m, (lent vc, (lent vs, (lent ic, (lent is, (lent (started_room role m vc vs ic is room), tt))))))))
+      (lent (encoded t.exchange), (role, (m, (read vc, (read vs, (read ic, (read is, (lent (started_room role m vc vs ic is room), tt))))))))
       (start_called (zeros exchange_size) role m vc vs ic is room (length_zeros exchange_size)) (started_zero role m vc vs ic is (length room) z)
       (reached m t.exchange (start_storable role m vc vs ic is (length room)) (start_method role m vc vs ic is (length room) z) (started_room role m vc vs ic is room) qs)
 

@@ -17,7 +17,7 @@ pub record Completed (role m : ℕ) (room : List ℕ) : Type 0 where
   pub numbers : List ℕ
   pub exchange : List ℕ
   pub room_left : List ℕ
-  pub told : Told book room calls numbers exchange room-left
+  pub told : Told book room calls numbers exchange room_left
   pub complete : is_complete (decoded exchange).stage ≡ true
 
 -- with this role, and one exchange after another in these two methods, the first by the first of the calls: the session is that one's
@@ -32,7 +32,7 @@ pub record CompletedTwice (role m m' : ℕ) (room : List ℕ) : Type 0 where
   pub numbers : List ℕ
   pub exchange : List ℕ
   pub room_left : List ℕ
-  pub told : Told book room calls numbers exchange room-left
+  pub told : Told book room calls numbers exchange room_left
   pub complete : is_complete (decoded exchange).stage ≡ true
   pub method_left : (decoded exchange).method ≡ m'
   pub count_is : (decoded exchange).session.count ≡ 2

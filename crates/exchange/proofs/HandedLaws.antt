@@ -167,7 +167,7 @@ complete_ready room b e room' (dead n x f y w v u t j r) z = absurd (false≢tru
 
 record Full (b : Book) : Type 0 where
   base : Base b.method b.fields.vc b.fields.vs b.fields.ic b.fields.is
-  host_key_is : Blob b.fields.ks
+  host_key : Blob b.fields.ks
   value : FormedS b.method b.fields.s
   key : Key b.method b.fields.k
 
@@ -175,11 +175,11 @@ full : {b : Book} → Reachable b → (n : ℕ) → 5 ≤ n → eqb (get_or (ste
 full (client0 o a) n h e = let v = eqb-true 1 n e in let w : ⊥ = omega arith in absurd w
 full (client1 o a c) n h e = let v = eqb-true 3 n e in let w : ⊥ = omega arith in absurd w
 full (client2 o a c k s) n h e = let v = eqb-true 4 n e in let w : ⊥ = omega arith in absurd w
-full (client3 o a c k s y) n h e = record { base = a; host_key_is = k; value = s; key = y }
+full (client3 o a c k s y) n h e = record { base = a; host_key = k; value = s; key = y }
 full (client4 o a c k s y) n h e = let v = eqb-true 0 n e in let w : ⊥ = omega arith in absurd w
 full (server0 o a) n h e = let v = eqb-true 2 n e in let w : ⊥ = omega arith in absurd w
 full (server1 o a c) n h e = let v = eqb-true 4 n e in let w : ⊥ = omega arith in absurd w
-full (server2 o a c k s y) n h e = record { base = a; host_key_is = k; value = s; key = y }
+full (server2 o a c k s y) n h e = record { base = a; host_key = k; value = s; key = y }
 full (server3 o a c k s y) n h e = let v = eqb-true 0 n e in let w : ⊥ = omega arith in absurd w
 
 module _ (room : List ℕ) (b : Book) (e : Exchange) (room' : List ℕ) (h : room_least ≤ length room) (sim : Sim room b e room') where
@@ -207,10 +207,10 @@ module _ (room : List ℕ) (b : Book) (e : Exchange) (room' : List ℕ) (h : roo
       let u = no_cause (length room) b q l.cause in
       let w = full l.sound 5 (omega arith) u.0 in
       let mo = w.base.method_ok_is in
-      let ks = within_least 1 blob_most (length f.ks) w.host_key_is.ok in
+      let ks = within_least 1 blob_most (length f.ks) w.host_key.ok in
       let s = s_least b.method (length f.s) (method_least b.method mo) (method_most b.method mo) w.value.len in (
         (λ i. reply_of (l.exchange i) (l.room_is i) g)
             ∙ (λ i. reply_bytes (ks_stands f.vc f.vs f.ic f.is (left_by b.past room) f.ks f.c f.s f.k ks i) (s_stands f.vc f.vs f.ic f.is (left_by b.past room) f.ks f.c f.s f.k s i) g),
         key_handed q (omega arith) z,
-        reply_back b.method mo f.ks f.s g w.host_key_is.ok w.value.ok (unless_none (blob_ok (length g)) 4 _ (omega arith) u.1).0,
+        reply_back b.method mo f.ks f.s g w.host_key.ok w.value.ok (unless_none (blob_ok (length g)) 4 _ (omega arith) u.1).0,
       )

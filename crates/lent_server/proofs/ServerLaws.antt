@@ -161,15 +161,15 @@ module _ (e : Exchange) (room g out k_out : List ℕ) where
       omega (
         arith,
         length_reply (standing_ks e.lens room) (standing_s e.lens room) g,
-        part_length room e.lens.ks (head_end e.lens + 4) h.ks-there,
-        part_length room e.lens.s (head_end e.lens + field_length e.lens.ks + field_length e.lens.c + 4) h.s-there,
+        part_length room e.lens.ks (head_end e.lens + 4) h.ks_there,
+        part_length room e.lens.s (head_end e.lens + field_length e.lens.ks + field_length e.lens.c + 4) h.s_there,
       )
 
   -- the code's sums stay far below the greatest size
   pub sign_sums : Signable → (start a b : ℕ) → start ≡ head_size e.lens → a ≡ field_size e.lens.ks → b ≡ field_size e.lens.c
       → (start ≤ 16400) × (a ≤ 4100) × (b ≤ 4100)
   sign_sums h start a b x y z =
-      let l = h.lens-small in
+      let l = h.lens_small in
       let p = x ∙ head_fits e.lens l in
       let q = y ∙ size_fits e.lens.ks l.ks in
       let r = z ∙ size_fits e.lens.c l.c in
@@ -182,11 +182,11 @@ module _ (e : Exchange) (room g out k_out : List ℕ) where
       → s ≡ bytes_at room (inside (length room) (part (start + a + b + 4) e.lens.s))
       → reply_bytes ks s g ≡ reply_of e room g
   reply_stands h start a b ks s x₀ y₀ z₀ p q =
-      let x = x₀ ∙ head_fits e.lens h.lens-small in
-      let y = y₀ ∙ size_fits e.lens.ks h.lens-small.ks in
-      let z = z₀ ∙ size_fits e.lens.c h.lens-small.c in
-      let u = p ∙ part_stands room (start + 4) e.lens.ks (head_end e.lens + 4) (λ i. x i + 4) h.ks-there in
-      let v = q ∙ part_stands room (start + a + b + 4) e.lens.s (head_end e.lens + field_length e.lens.ks + field_length e.lens.c + 4) (λ i. x i + y i + z i + 4) h.s-there in
+      let x = x₀ ∙ head_fits e.lens h.lens_small in
+      let y = y₀ ∙ size_fits e.lens.ks h.lens_small.ks in
+      let z = z₀ ∙ size_fits e.lens.c h.lens_small.c in
+      let u = p ∙ part_stands room (start + 4) e.lens.ks (head_end e.lens + 4) (λ i. x i + 4) h.ks_there in
+      let v = q ∙ part_stands room (start + a + b + 4) e.lens.s (head_end e.lens + field_length e.lens.ks + field_length e.lens.c + 4) (λ i. x i + y i + z i + 4) h.s_there in
       λ i. reply_bytes (u i) (v i) g
 
   -- its counts

@@ -363,8 +363,8 @@ module _ (b room : List ℕ) (cl : Classical) (x : List ℕ) (kem : Kem) (k_pq k
           let e₁ = with_stage e SecretDone l in
           let a = s_changed b room q o SecretDone (length ks) (length s) ex₁ refl (j.own ∙ rw w) in
           let g = j.end_is ∙ ap fields_size (lengths_there e₁ ex₁ a o.k_size_is o.h_size_is o.id_size (small_short l u.sums) o.session) in
-          let c = k_changed e₁ bytes ex₁ ex refl o.k_size_is size a (whole e₁ ex₁ a o.k_size_is o.h_size_is o.id_size) j.ex-is in
-          let f = server_done_lem e room cl x kem k_pq ks s z r _ _ end len bytes src room₁ left (ap head_size o.lens_are) (ap (λ (y : Lengths). field_size y.c) o.lens_are) (j.own_room ∙ rw w) g j.len_is j.bytes_are j.src-is j.left_is in (
+          let c = k_changed e₁ bytes ex₁ ex refl o.k_size_is size a (whole e₁ ex₁ a o.k_size_is o.h_size_is o.id_size) j.ex_is in
+          let f = server_done_lem e room cl x kem k_pq ks s z r _ _ end len bytes src room₁ left (ap head_size o.lens_are) (ap (λ (y : Lengths). field_size y.c) o.lens_are) (j.own_room ∙ rw w) g j.len_is j.bytes_are j.src_is j.left_is in (
             with_h l (own_server e room cl x kem k_pq ks s z r) c f.0 f.1,
             omega (arith, g ∙ fields_fits l u.sums, j.len_is, u.all_fits),
           )
@@ -372,10 +372,10 @@ module _ (b room : List ℕ) (cl : Classical) (x : List ℕ) (kem : Kem) (k_pq k
           let r : e.role ≡ server → ⊥ = λ h. eqb-false role server w (role_read b role j.role_is ∙ h) in
           let a : ex₁ ≡ encoded e = j.own ∙ rw w o.bytes_are in
           let g = j.end_is ∙ ap fields_size (lengths_there e ex₁ a o.k_size_is o.h_size_is o.id_size (small_short e.lens fit.sums) o.session) in
-          let c = k_changed e bytes ex₁ ex o.no_fail o.k_size_is size a (whole e ex₁ a o.k_size_is o.h_size_is o.id_size) j.ex-is in
+          let c = k_changed e bytes ex₁ ex o.no_fail o.k_size_is size a (whole e ex₁ a o.k_size_is o.h_size_is o.id_size) j.ex_is in
           let n : room₁ ≡ room = j.own_room ∙ rw w in
           let m = j.left_is ∙ ap (λ (y : List ℕ). laid y end src) n in
-          let f = client_done_lem e room cl x kem k_pq ks s z r end len bytes src left g j.len_is j.bytes_are j.src-is m in (
+          let f = client_done_lem e room cl x kem k_pq ks s z r end len bytes src left g j.len_is j.bytes_are j.src_is m in (
             with_h e.lens (own_client e room cl x kem k_pq ks s z r) c f.0 f.1,
             omega (arith, g ∙ fields_fits e.lens fit.sums, j.len_is, fit.all_fits),
           )

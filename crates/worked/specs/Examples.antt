@@ -37,7 +37,7 @@ pub record Blanks : Type 0 where
   pub lower : List ℕ
   pub lower_bytes : Bytes lower
   pub lower_value : value lower ≡ negsuc 128
-  pub k_pq_is : List ℕ
+  pub k_pq : List ℕ
   pub k_pq_length : length k_pq ≡ 32
   pub method : ℕ
   pub ks : List ℕ
@@ -66,7 +66,7 @@ examples o =
     ∷ record { found = bytes (k_in 4 (zeros 32)); stated = bytes (0 ∷ 0 ∷ 0 ∷ 0 ∷ []) }
     -- 14.3: X of 32 zero bytes, methods 1 and 9
     ∷ record { found = refused (secret_cause client 1 (Given 32) (zeros 32) Absent [] [] []); stated = refused 16 }
-    ∷ record { found = refused (secret_cause client 9 (Given 32) (zeros 32) Done o.k_pq_is [] []); stated = refused 16 }
+    ∷ record { found = refused (secret_cause client 9 (Given 32) (zeros 32) Done o.k_pq [] []); stated = refused 16 }
     -- 14.4: first byte 7f
     ∷ record { found = body_is 1 (k_in 4 (0x7f ∷ o.b ∷ o.r)); stated = body 32 (0x7f ∷ []) }
     -- 14.5: first byte 80

@@ -25,7 +25,7 @@ returns c =
     let a = c.before.before.before.before.before.before.before.args in
     let e = a.e in
     let r = a.room.now in
-    let q = verdict a.signature a.host_key_is (length a.k-out.now) in
+    let q = verdict a.signature a.host_key (length a.k-out.now) in
     let v = value_long e r q _ _ c.before.before.before.lay.ensures c.before.if1.true in
     (c.not-due.ensures ∙ v.0, v.1, output_refused _ a.k-out.now e.k v.2)
 
@@ -59,7 +59,7 @@ returns_2 c =
     let a = s.args in
     let e = a.e in
     let r = a.room.now in
-    let q = verdict a.signature a.host_key_is (length a.k-out.now) in
+    let q = verdict a.signature a.host_key (length a.k-out.now) in
     let v = value_step e r q _ _ t.before.before.lay.ensures t.if1.false (sizes s) (a.k-out.now ∷ []) _ _ _ _ _ d.verdict.ensures _ _ _ (λ w. (ap (λ (l : List ℕ). get_or l 0 0) w.told_is, second_none e r q refl)) refl in
     (c.answer.ensures ∙ v.0, v.1, ap (λ (l : List (List ℕ)). get_or l 0 []) v.2)
 

@@ -1,0 +1,45 @@
+-- `method_names::name_len` meets its contract. Assumes nothing.
+use mathlib.Core.Path.{ap}
+use Rattle.methods.specs.Rows.{rows, row_of}
+use Rattle.methods.specs.declared.Method.{Method}
+use Rattle.methods.proofs.MethodLaws.{row_other}
+use Rattle.method_names.proofs.name_len.Goals as goal
+
+pub returns-in-1 : goal.returns-in-1
+unfolding row_of rows
+returns-in-1 c = rw c.in-1.is
+
+pub returns-in-2 : goal.returns-in-2
+unfolding row_of rows
+returns-in-2 c = rw c.in-2.is
+
+pub returns-in-3 : goal.returns-in-3
+unfolding row_of rows
+returns-in-3 c = rw c.in-3.is
+
+pub returns-in-4 : goal.returns-in-4
+unfolding row_of rows
+returns-in-4 c = rw c.in-4.is
+
+pub returns-in-5 : goal.returns-in-5
+unfolding row_of rows
+returns-in-5 c = rw c.in-5.is
+
+pub returns-in-6 : goal.returns-in-6
+unfolding row_of rows
+returns-in-6 c = rw c.in-6.is
+
+pub returns-in-7 : goal.returns-in-7
+unfolding row_of rows
+returns-in-7 c = rw c.in-7.is
+
+pub returns-in-8 : goal.returns-in-8
+unfolding row_of rows
+returns-in-8 c = rw c.in-8.is
+
+pub returns-in-9 : goal.returns-in-9
+unfolding row_of rows
+returns-in-9 c = rw c.in-9.is
+
+pub returns-in_default : goal.returns-in_default
+returns-in_default c = ap (λ (r : Method). r.name_len) (row_other _ c.in_default.in_default-own.rest)
