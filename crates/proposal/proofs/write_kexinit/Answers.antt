@@ -15,8 +15,8 @@ use Rattle.proposal.proofs.write_kexinit.Goals as goal
 pub returns-then-cookie-ne-COOKIE_SIZE : goal.returns-then-cookie-ne-COOKIE_SIZE
 returns-then-cookie-ne-COOKIE_SIZE c =
     let a = c.args in
-    let x = (a.kex.now ∷ a.host_key.now ∷ a.cipher-in.now ∷ a.cipher-out.now ∷ a.mac-in.now ∷ []) in
-    let y = (a.mac-out.now ∷ a.compression-in.now ∷ a.compression-out.now ∷ a.language-in.now ∷ a.language-out.now ∷ []) in
+    let x = (a.kex.now ∷ a.host_key.now ∷ a.cipher_in.now ∷ a.cipher_out.now ∷ a.mac_in.now ∷ []) in
+    let y = (a.mac_out.now ∷ a.compression_in.now ∷ a.compression_out.now ∷ a.language_in.now ∷ a.language_out.now ∷ []) in
     let k = kexinit_of a.cookie.now (x ++ y) a.follows a.reserved in
     let o = a.out.now in
     writer_refused _ (kexinit k) o 4 (omega arith) (write_cookie k (length o) (λ e. omega (arith, e)))
@@ -24,8 +24,8 @@ returns-then-cookie-ne-COOKIE_SIZE c =
 pub returns-then-total-gt-KEXINIT_MOST : goal.returns-then-total-gt-KEXINIT_MOST
 returns-then-total-gt-KEXINIT_MOST c =
     let a = c.args in
-    let x = (a.kex.now ∷ a.host_key.now ∷ a.cipher-in.now ∷ a.cipher-out.now ∷ a.mac-in.now ∷ []) in
-    let y = (a.mac-out.now ∷ a.compression-in.now ∷ a.compression-out.now ∷ a.language-in.now ∷ a.language-out.now ∷ []) in
+    let x = (a.kex.now ∷ a.host_key.now ∷ a.cipher_in.now ∷ a.cipher_out.now ∷ a.mac_in.now ∷ []) in
+    let y = (a.mac_out.now ∷ a.compression_in.now ∷ a.compression_out.now ∷ a.language_in.now ∷ a.language_out.now ∷ []) in
     let k = kexinit_of a.cookie.now (x ++ y) a.follows a.reserved in
     let o = a.out.now in
     let t = total_two x y _ _ c.with_five-half.ensures c.with_five-total.ensures in
@@ -34,8 +34,8 @@ returns-then-total-gt-KEXINIT_MOST c =
 pub returns-then-out-total : goal.returns-then-out-total
 returns-then-out-total c =
     let a = c.args in
-    let x = (a.kex.now ∷ a.host_key.now ∷ a.cipher-in.now ∷ a.cipher-out.now ∷ a.mac-in.now ∷ []) in
-    let y = (a.mac-out.now ∷ a.compression-in.now ∷ a.compression-out.now ∷ a.language-in.now ∷ a.language-out.now ∷ []) in
+    let x = (a.kex.now ∷ a.host_key.now ∷ a.cipher_in.now ∷ a.cipher_out.now ∷ a.mac_in.now ∷ []) in
+    let y = (a.mac_out.now ∷ a.compression_in.now ∷ a.compression_out.now ∷ a.language_in.now ∷ a.language_out.now ∷ []) in
     let k = kexinit_of a.cookie.now (x ++ y) a.follows a.reserved in
     let o = a.out.now in
     let t = total_two x y _ _ c.with_five-half.ensures c.with_five-total.ensures in
@@ -44,8 +44,8 @@ returns-then-out-total c =
 pub bounds-out-0 : goal.bounds-out-0
 bounds-out-0 c =
     let a = c.args in
-    let x = (a.kex.now ∷ a.host_key.now ∷ a.cipher-in.now ∷ a.cipher-out.now ∷ a.mac-in.now ∷ []) in
-    let y = (a.mac-out.now ∷ a.compression-in.now ∷ a.compression-out.now ∷ a.language-in.now ∷ a.language-out.now ∷ []) in
+    let x = (a.kex.now ∷ a.host_key.now ∷ a.cipher_in.now ∷ a.cipher_out.now ∷ a.mac_in.now ∷ []) in
+    let y = (a.mac_out.now ∷ a.compression_in.now ∷ a.compression_out.now ∷ a.language_in.now ∷ a.language_out.now ∷ []) in
     let t = total_two x y _ _ c.with_five-half.ensures c.with_five-total.ensures in
     let n = total_runs x y (omega arith) in
     omega arith
@@ -53,8 +53,8 @@ bounds-out-0 c =
 pub put_five-middle-requires : goal.put_five-middle-requires
 put_five-middle-requires c =
     let a = c.args in
-    let x = (a.kex.now ∷ a.host_key.now ∷ a.cipher-in.now ∷ a.cipher-out.now ∷ a.mac-in.now ∷ []) in
-    let y = (a.mac-out.now ∷ a.compression-in.now ∷ a.compression-out.now ∷ a.language-in.now ∷ a.language-out.now ∷ []) in
+    let x = (a.kex.now ∷ a.host_key.now ∷ a.cipher_in.now ∷ a.cipher_out.now ∷ a.mac_in.now ∷ []) in
+    let y = (a.mac_out.now ∷ a.compression_in.now ∷ a.compression_out.now ∷ a.language_in.now ∷ a.language_out.now ∷ []) in
     let t = total_two x y _ _ c.with_five-half.ensures c.with_five-total.ensures in
     let b = c.if-total-gt-KEXINIT_MOST.false in
     let n = total_runs x y (omega arith) in
@@ -65,8 +65,8 @@ put_five-middle-requires c =
 pub put_five-end-requires : goal.put_five-end-requires
 put_five-end-requires c =
     let a = c.args in
-    let x = (a.kex.now ∷ a.host_key.now ∷ a.cipher-in.now ∷ a.cipher-out.now ∷ a.mac-in.now ∷ []) in
-    let y = (a.mac-out.now ∷ a.compression-in.now ∷ a.compression-out.now ∷ a.language-in.now ∷ a.language-out.now ∷ []) in
+    let x = (a.kex.now ∷ a.host_key.now ∷ a.cipher_in.now ∷ a.cipher_out.now ∷ a.mac_in.now ∷ []) in
+    let y = (a.mac_out.now ∷ a.compression_in.now ∷ a.compression_out.now ∷ a.language_in.now ∷ a.language_out.now ∷ []) in
     let t = total_two x y _ _ c.with_five-half.ensures c.with_five-total.ensures in
     let b = c.if-total-gt-KEXINIT_MOST.false in
     let n = total_runs x y (omega arith) in
@@ -79,8 +79,8 @@ put_five-end-requires c =
 pub bounds-out-end : goal.bounds-out-end
 bounds-out-end c =
     let a = c.args in
-    let x = (a.kex.now ∷ a.host_key.now ∷ a.cipher-in.now ∷ a.cipher-out.now ∷ a.mac-in.now ∷ []) in
-    let y = (a.mac-out.now ∷ a.compression-in.now ∷ a.compression-out.now ∷ a.language-in.now ∷ a.language-out.now ∷ []) in
+    let x = (a.kex.now ∷ a.host_key.now ∷ a.cipher_in.now ∷ a.cipher_out.now ∷ a.mac_in.now ∷ []) in
+    let y = (a.mac_out.now ∷ a.compression_in.now ∷ a.compression_out.now ∷ a.language_in.now ∷ a.language_out.now ∷ []) in
     let t = total_two x y _ _ c.with_five-half.ensures c.with_five-total.ensures in
     let b = c.if-total-gt-KEXINIT_MOST.false in
     let n = total_runs x y (omega arith) in
@@ -95,8 +95,8 @@ bounds-out-end c =
 pub overflow_add-end : goal.overflow_add-end
 overflow_add-end c =
     let a = c.args in
-    let x = (a.kex.now ∷ a.host_key.now ∷ a.cipher-in.now ∷ a.cipher-out.now ∷ a.mac-in.now ∷ []) in
-    let y = (a.mac-out.now ∷ a.compression-in.now ∷ a.compression-out.now ∷ a.language-in.now ∷ a.language-out.now ∷ []) in
+    let x = (a.kex.now ∷ a.host_key.now ∷ a.cipher_in.now ∷ a.cipher_out.now ∷ a.mac_in.now ∷ []) in
+    let y = (a.mac_out.now ∷ a.compression_in.now ∷ a.compression_out.now ∷ a.language_in.now ∷ a.language_out.now ∷ []) in
     let t = total_two x y _ _ c.with_five-half.ensures c.with_five-total.ensures in
     let b = c.if-total-gt-KEXINIT_MOST.false in
     let n = total_runs x y (omega arith) in
@@ -122,8 +122,8 @@ shape_of-out c =
 pub returns : goal.returns
 returns c =
     let a = c.args in
-    let x = (a.kex.now ∷ a.host_key.now ∷ a.cipher-in.now ∷ a.cipher-out.now ∷ a.mac-in.now ∷ []) in
-    let y = (a.mac-out.now ∷ a.compression-in.now ∷ a.compression-out.now ∷ a.language-in.now ∷ a.language-out.now ∷ []) in
+    let x = (a.kex.now ∷ a.host_key.now ∷ a.cipher_in.now ∷ a.cipher_out.now ∷ a.mac_in.now ∷ []) in
+    let y = (a.mac_out.now ∷ a.compression_in.now ∷ a.compression_out.now ∷ a.language_in.now ∷ a.language_out.now ∷ []) in
     let t = total_two x y _ _ c.with_five-half.ensures c.with_five-total.ensures in
     let b = c.if-total-gt-KEXINIT_MOST.false in
     let n = total_runs x y (omega arith) in
