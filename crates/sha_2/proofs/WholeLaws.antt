@@ -23,7 +23,7 @@ use Rattle.sha_words.proofs.DigestLaws.{length_after, padded_least, kind_most, l
 use Rattle.sha_2.specs.declared.Hash.{Hash}
 use Rattle.sha_2.specs.declared.Fed.{Fed}
 use Rattle.sha_2.specs.declared.Digest.{Digest}
-use Rattle.sha_2.specs.Hash.{initial_value, fresh, started, fits, grown, waiting, taken, fed, last_value, finished, digested, fed_all, AllTaken, all_of}
+use Rattle.sha_2.specs.Hash.{initial_value, fresh, started, fits, grown, waiting, taken, last_value, finished, digested, fed_all, AllTaken, all_of}
 use Rattle.sha_2.proofs.StateLaws.{fitting, initial_known, fed_taken, finished_fit}
 use Rattle.sha_2.proofs.PartLaws.{taken_taken, taken_fits, taken_total}
 
