@@ -3,36 +3,37 @@
 // room, and for the secret H. What it prints is held to the file `stdout`, which tests/expect_in_place.py computes from the capture.
 #![tactic(auto)]
 
+ghost use Rattle.std.specs.Prelude.{◌≤◌, length, IfOk};
+
 use exchange::{Classical, Exchange, Kem, Step};
-use libc::{STDIN_FILENO, STDOUT_FILENO};
+use std::io;
+use std::io::Read;
 use wire::Part;
 
-fn text(s: &[u8]) {
-    io::write_all(STDOUT_FILENO, s);
+fn text(rt: &impl Print, s: &[u8]) -> io::Result<()> {
+    rt.write_all(s)
 }
 
-fn decimal(n: usize) {
-    io::print_decimal(STDOUT_FILENO, n as u64);
+fn decimal(rt: &impl Print, n: usize) -> io::Result<()> {
+    print!(rt; "{n}")
 }
 
-fn item(n: usize) {
-    text(b" ");
-    decimal(n);
+fn item(rt: &impl Print, n: usize) -> io::Result<()> {
+    text(rt, b" ")?;
+    decimal(rt, n)
 }
 
-fn hex(b: u8) {
-    io::print_hex(STDOUT_FILENO, b as u64, 2);
+fn hex(rt: &impl Print, b: u8) -> io::Result<()> {
+    print!(rt; "{b:02x}")
 }
 
 // H, with the zeros after it.
-fn print_h(h: &[u8; limits::H_SIZE]) {
-    text(b"H ");
-    let mut i = 0;
-    while i < limits::H_SIZE {
-        hex(h[i]);
-        i += 1;
+fn print_h(rt: &impl Print, h: &[u8; limits::H_SIZE]) -> io::Result<()> {
+    text(rt, b"H ")?;
+    for b in h {
+        hex(rt, *b)?;
     }
-    text(b"\n");
+    text(rt, b"\n")
 }
 
 fn mix(h: usize, b: u8) -> usize {
@@ -42,23 +43,21 @@ fn mix(h: usize, b: u8) -> usize {
 // A checksum over every byte and the length.
 fn sum(s: &[u8]) -> usize {
     let mut h = 0;
-    let mut i = 0;
-    while i < s.len() {
-        h = mix(h, s[i]);
-        i += 1;
+    for b in s {
+        h = mix(h, *b);
     }
     h
 }
 
 // Prints a call's answer, and hands on its exchange.
-fn printed(name: &[u8], st: Step, room: &[u8]) -> Exchange {
-    text(name);
-    item(st.number as usize);
-    item(st.count);
-    item(st.position);
-    item(sum(room));
-    text(b"\n");
-    st.exchange
+fn printed(rt: &impl Print, name: &[u8], st: Step, room: &[u8]) -> io::Result<Exchange> {
+    text(rt, name)?;
+    item(rt, st.number as usize)?;
+    item(rt, st.count)?;
+    item(rt, st.position)?;
+    item(rt, sum(room))?;
+    text(rt, b"\n")?;
+    Ok(st.exchange)
 }
 
 // ---- the fields of the capture, in their order
@@ -118,17 +117,17 @@ fn own_c(e: Exchange, rec: &[u8], room: &mut [u8]) -> Exchange {
     st.exchange
 }
 
-fn init(e: Exchange, payload: &[u8], room: &mut [u8]) -> Exchange {
+fn init(rt: &impl Print, e: Exchange, payload: &[u8], room: &mut [u8]) -> io::Result<Exchange> {
     let st = in_place::read_init_on_copy(e, room, payload);
-    printed(b"INIT", st, room)
+    printed(rt, b"INIT", st, room)
 }
 
-fn reply(e: Exchange, payload: &[u8], room: &mut [u8]) -> Exchange {
+fn reply(rt: &impl Print, e: Exchange, payload: &[u8], room: &mut [u8]) -> io::Result<Exchange> {
     let st = in_place::read_reply_on_copy(e, room, payload);
-    printed(b"REPLY", st, room)
+    printed(rt, b"REPLY", st, room)
 }
 
-fn secret(e: Exchange, rec: &[u8], room: &mut [u8]) -> Exchange {
+fn secret(rt: &impl Print, e: Exchange, rec: &[u8], room: &mut [u8]) -> io::Result<Exchange> {
     let x = field(rec, X);
     let st = in_place::take_secret_on_copy(
         e,
@@ -142,38 +141,39 @@ fn secret(e: Exchange, rec: &[u8], room: &mut [u8]) -> Exchange {
     );
     let step = st.step;
     let h = st.h;
-    let f = printed(b"secret", step, room);
-    print_h(&h);
-    f
+    let f = printed(rt, b"secret", step, room)?;
+    print_h(rt, &h)?;
+    Ok(f)
 }
 
-fn verdict(e: Exchange, room: &mut [u8]) {
+fn verdict(rt: &impl Print, e: Exchange, room: &mut [u8]) -> io::Result<()> {
     let mut k = [0x55u8; limits::K_SIZE];
     let st = in_place::verdict_on_copy(e, room, true, true, &mut k);
-    printed(b"verdict", st, room);
-    text(b"K");
-    item(sum(&k));
-    text(b"\n");
+    printed(rt, b"verdict", st, room)?;
+    text(rt, b"K")?;
+    item(rt, sum(&k))?;
+    text(rt, b"\n")
 }
 
 // ---- the exchange
 
 // INIT is not the client's to read.
-fn client_reads(e: Exchange, rec: &[u8], room: &mut [u8]) -> Exchange {
-    let f = init(e, field(rec, INIT), room);
-    reply(f, field(rec, REPLY), room)
+fn client_reads(rt: &impl Print, e: Exchange, rec: &[u8], room: &mut [u8]) -> io::Result<Exchange> {
+    let f = init(rt, e, field(rec, INIT), room)?;
+    reply(rt, f, field(rec, REPLY), room)
 }
 
-fn client(rec: &[u8], room: &mut [u8]) {
+fn client(rt: &impl Print, rec: &[u8], room: &mut [u8]) -> io::Result<()> {
     let a = own_c(start(1, rec, room), rec, room);
-    let b = secret(client_reads(a, rec, room), rec, room);
-    verdict(b, room);
+    let b = secret(rt, client_reads(rt, a, rec, room)?, rec, room)?;
+    verdict(rt, b, room)
 }
 
 // A REPLY for an INIT is the peer's fault, and so is an INIT that is cut: both end the exchange.
-fn server(rec: &[u8], first: &[u8], room: &mut [u8]) {
-    let a = init(start(2, rec, room), first, room);
-    secret(a, rec, room);
+fn server(rt: &impl Print, rec: &[u8], first: &[u8], room: &mut [u8]) -> io::Result<()> {
+    let a = init(rt, start(2, rec, room), first, room)?;
+    secret(rt, a, rec, room)?;
+    Ok(())
 }
 
 // Its first bytes.
@@ -181,13 +181,30 @@ fn cut(payload: &[u8]) -> &[u8] {
     wire::part_of(payload, Part { start: 0, len: 40 })
 }
 
-fn main() {
-    let mut space = io::large_buffer();
+// Reads until buf is full or the input ends: how many bytes it put at the start of buf.
+fn read_full(rt: &impl Input, buf: &mut [u8]) -> io::Result<usize>
+    ensures { IfOk result (λ n. n ≤ length buf.new) }
+{
+    let mut input = rt.reader();
+    let mut done = 0;
+    // A read that gives nothing is the last: as many reads as buf has bytes are enough.
+    for _ in 0..buf.len() {
+        let n = input.read(&mut buf[done..])?;
+        if n == 0 {
+            break;
+        }
+        done += n;
+    }
+    Ok(done)
+}
+
+fn main(rt: HostRuntime) -> io::Result<()> {
+    let mut space = [0u8; 65536];
     let mut room = [0x55u8; limits::ROOM_LEAST];
-    let n = io::read_full(STDIN_FILENO, &mut space);
+    let n = read_full(&rt, &mut space)?;
     let rec = &space[..n];
-    client(rec, &mut room);
-    server(rec, field(rec, INIT), &mut room);
-    server(rec, field(rec, REPLY), &mut room);
-    server(rec, cut(field(rec, INIT)), &mut room);
+    client(&rt, rec, &mut room)?;
+    server(&rt, rec, field(rec, INIT), &mut room)?;
+    server(&rt, rec, field(rec, REPLY), &mut room)?;
+    server(&rt, rec, cut(field(rec, INIT)), &mut room)
 }

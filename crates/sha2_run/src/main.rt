@@ -3,9 +3,10 @@
 // `stdout`, the digests that NIST published (tests/expect_sha2.py).
 #![tactic(auto)]
 
-ghost use Rattle.std.specs.Prelude.{◌≤◌};
+ghost use Rattle.std.specs.Prelude.{◌≤◌, length, IfOk};
 
-use libc::{STDIN_FILENO, STDOUT_FILENO};
+use std::io;
+use std::io::Read;
 use wire::Part;
 
 const DIGITS: [u8; 16] = *b"0123456789abcdef";
@@ -15,26 +16,21 @@ fn digit(n: u8) -> u8 {
 }
 
 // The first n bytes of a digest, and what ends them.
-fn put_digest(d: [u8; limits::H_SIZE], n: u8, end: &[u8]) {
+fn put_digest(rt: &impl Print, d: [u8; limits::H_SIZE], n: u8, end: &[u8]) -> io::Result<()> {
     let mut out = [0u8; 2 * limits::H_SIZE];
-    let mut i = 0;
-    while i < limits::H_SIZE {
+    for i in 0..limits::H_SIZE {
         let b = d[i];
         out[2 * i] = digit(b / 16);
         out[2 * i + 1] = digit(b);
-        i += 1;
     }
-    io::write_all(
-        STDOUT_FILENO,
-        wire::part_of(
-            &out,
-            Part {
-                start: 0,
-                len: 2 * (n as usize),
-            },
-        ),
-    );
-    io::write_all(STDOUT_FILENO, end);
+    rt.write_all(wire::part_of(
+        &out,
+        Part {
+            start: 0,
+            len: 2 * (n as usize),
+        },
+    ))?;
+    rt.write_all(end)
 }
 
 fn least(a: usize, b: usize) -> usize
@@ -47,17 +43,17 @@ fn least(a: usize, b: usize) -> usize
     b
 }
 
-fn whole(kind: u8, m: &[u8]) {
+fn whole(rt: &impl Print, kind: u8, m: &[u8]) -> io::Result<()> {
     let s = sha_2::start(kind as usize);
     let h = s.hash;
     let x = sha_2::feed(h, m);
     let f = x.hash;
     let d = sha_2::finish(f);
     let bytes = d.bytes;
-    put_digest(bytes, kind, b" ");
+    put_digest(rt, bytes, kind, b" ")
 }
 
-fn in_parts(kind: u8, m: &[u8]) {
+fn in_parts(rt: &impl Print, kind: u8, m: &[u8]) -> io::Result<()> {
     let s = sha_2::start(kind as usize);
     let mut h = s.hash;
     let mut at = 0;
@@ -72,7 +68,7 @@ fn in_parts(kind: u8, m: &[u8]) {
     }
     let d = sha_2::finish(h);
     let bytes = d.bytes;
-    put_digest(bytes, kind, b"\n");
+    put_digest(rt, bytes, kind, b"\n")
 }
 
 fn length_in(head: &[u8; 9]) -> usize {
@@ -81,35 +77,51 @@ fn length_in(head: &[u8; 9]) -> usize {
     ) as usize
 }
 
+// Reads until buf is full or the input ends: how many bytes it put at the start of buf.
+fn read_full(rt: &impl Input, buf: &mut [u8]) -> io::Result<usize>
+    ensures { IfOk result (λ n. n ≤ length buf.new) }
+{
+    let mut input = rt.reader();
+    let mut done = 0;
+    // A read that gives nothing is the last: as many reads as buf has bytes are enough.
+    for _ in 0..buf.len() {
+        let n = input.read(&mut buf[done..])?;
+        if n == 0 {
+            break;
+        }
+        done += n;
+    }
+    Ok(done)
+}
+
 // A message: whether there was one.
-fn message(space: &mut [u8]) -> bool {
+fn message(rt: &(impl Input + Print), space: &mut [u8]) -> io::Result<bool> {
     let mut head = [0u8; 9];
-    let got = io::read_full(STDIN_FILENO, &mut head);
+    let got = read_full(rt, &mut head)?;
     if got < 9 {
-        return false;
+        return Ok(false);
     }
     let kind = head[0];
     let len = length_in(&head);
     if space.len() < len {
-        return false;
+        return Ok(false);
     }
-    let n = io::read_full(STDIN_FILENO, &mut space[0..len]);
+    let n = read_full(rt, &mut space[0..len])?;
     if n < len {
-        return false;
+        return Ok(false);
     }
     let m = wire::part_of(space, Part { start: 0, len });
-    whole(kind, m);
-    in_parts(kind, m);
-    true
+    whole(rt, kind, m)?;
+    in_parts(rt, kind, m)?;
+    Ok(true)
 }
 
-fn main() {
-    let mut space = io::large_buffer();
-    let mut left: usize = 1000;
-    while 0 < left {
-        if !message(&mut space) {
-            return;
+fn main(rt: HostRuntime) -> io::Result<()> {
+    let mut space = [0u8; 65536];
+    for _ in 0..1000 {
+        if !message(&rt, &mut space)? {
+            return Ok(());
         }
-        left -= 1;
     }
+    Ok(())
 }

@@ -2,17 +2,20 @@
 // call of the covered reader. What it prints is held to the file `stdout`, which tests/expect_views.py computes.
 #![tactic(auto)]
 
+ghost use Rattle.std.specs.Prelude.{◌≤◌, length, IfOk};
+
 use kexinit::Head;
-use libc::{STDIN_FILENO, STDOUT_FILENO};
 use names::{Cursor, Next};
+use std::io;
+use std::io::Read;
 use wire::Part;
 
-fn text(s: &[u8]) {
-    io::write_all(STDOUT_FILENO, s);
+fn text(rt: &impl Print, s: &[u8]) -> io::Result<()> {
+    rt.write_all(s)
 }
 
-fn decimal(n: usize) {
-    io::print_decimal(STDOUT_FILENO, n as u64);
+fn decimal(rt: &impl Print, n: usize) -> io::Result<()> {
+    print!(rt; "{n}")
 }
 
 fn same_part(a: Part, b: Part) -> bool {
@@ -23,86 +26,103 @@ fn same_next(a: Next, b: Next) -> bool {
     a.number == b.number && a.found == b.found && same_part(a.name, b.name)
 }
 
-fn put_same(same: bool) {
+fn put_same(rt: &impl Print, same: bool) -> io::Result<()> {
     if same {
-        text(b" equal\n");
+        text(rt, b" equal\n")
     } else {
-        text(b" different\n");
+        text(rt, b" different\n")
     }
 }
 
-fn put_name(payload: &[u8], name: Part) {
-    text(wire::part_of(payload, name));
-    text(b" ");
+fn put_name(rt: &impl Print, payload: &[u8], name: Part) -> io::Result<()> {
+    text(rt, wire::part_of(payload, name))?;
+    text(rt, b" ")
 }
 
 // Yields names by a view and by the reader until none is found.
-fn walked(payload: &[u8], head: Head, from: Cursor) -> bool {
+fn walked(rt: &impl Print, payload: &[u8], head: Head, from: Cursor) -> io::Result<bool> {
     let mut a = from;
     let mut b = from;
-    let mut k: usize = 0;
-    while k < 100 {
+    for _ in 0..100 {
         let r = views::next_by_view(payload, a, head);
         let n = names::next_name(payload, b);
         if !same_next(r, n) {
-            return false;
+            return Ok(false);
         }
         if !r.found {
-            decimal(r.number as usize);
-            return true;
+            decimal(rt, r.number as usize)?;
+            return Ok(true);
         }
-        put_name(payload, r.name);
-        k += 1;
+        put_name(rt, payload, r.name)?;
         a = r.cursor;
         b = n.cursor;
     }
-    false
+    Ok(false)
 }
 
-fn list(payload: &[u8], i: usize) {
-    decimal(i);
-    text(b": ");
+fn list(rt: &impl Print, payload: &[u8], i: usize) -> io::Result<()> {
+    decimal(rt, i)?;
+    text(rt, b": ")?;
     let r = views::open_by_view(payload, i);
     let o = kexinit::open_list(payload, i);
     let head = o.head;
-    decimal(r.number as usize);
-    text(b" ");
-    decimal(r.position);
-    text(b" ");
-    let walk = walked(payload, r, o.cursor);
-    put_same(walk && r.number == head.number && r.position == head.position);
+    decimal(rt, r.number as usize)?;
+    text(rt, b" ")?;
+    decimal(rt, r.position)?;
+    text(rt, b" ")?;
+    let walk = walked(rt, payload, r, o.cursor)?;
+    put_same(
+        rt,
+        walk && r.number == head.number && r.position == head.position,
+    )
 }
 
-fn lists(payload: &[u8]) {
-    let mut i = 0;
-    while i < 12 {
-        list(payload, i);
-        i += 1;
+fn lists(rt: &impl Print, payload: &[u8]) -> io::Result<()> {
+    for i in 0..12 {
+        list(rt, payload, i)?;
     }
+    Ok(())
 }
 
 // The payloads, each behind four length bytes.
-fn fourth(s: &[u8]) {
-    lists(wire::string_body(s));
+fn fourth(rt: &impl Print, s: &[u8]) -> io::Result<()> {
+    lists(rt, wire::string_body(s))
 }
 
-fn third(s: &[u8]) {
-    lists(wire::string_body(s));
-    fourth(wire::string_rest(s));
+fn third(rt: &impl Print, s: &[u8]) -> io::Result<()> {
+    lists(rt, wire::string_body(s))?;
+    fourth(rt, wire::string_rest(s))
 }
 
-fn second(s: &[u8]) {
-    lists(wire::string_body(s));
-    third(wire::string_rest(s));
+fn second(rt: &impl Print, s: &[u8]) -> io::Result<()> {
+    lists(rt, wire::string_body(s))?;
+    third(rt, wire::string_rest(s))
 }
 
-fn first(s: &[u8]) {
-    lists(wire::string_body(s));
-    second(wire::string_rest(s));
+fn first(rt: &impl Print, s: &[u8]) -> io::Result<()> {
+    lists(rt, wire::string_body(s))?;
+    second(rt, wire::string_rest(s))
 }
 
-fn main() {
-    let mut space = io::buffer();
-    let n = io::read_full(STDIN_FILENO, &mut space);
-    first(&space[..n]);
+// Reads until buf is full or the input ends: how many bytes it put at the start of buf.
+fn read_full(rt: &impl Input, buf: &mut [u8]) -> io::Result<usize>
+    ensures { IfOk result (λ n. n ≤ length buf.new) }
+{
+    let mut input = rt.reader();
+    let mut done = 0;
+    // A read that gives nothing is the last: as many reads as buf has bytes are enough.
+    for _ in 0..buf.len() {
+        let n = input.read(&mut buf[done..])?;
+        if n == 0 {
+            break;
+        }
+        done += n;
+    }
+    Ok(done)
+}
+
+fn main(rt: HostRuntime) -> io::Result<()> {
+    let mut space = [0u8; 4096];
+    let n = read_full(&rt, &mut space)?;
+    first(&rt, &space[..n])
 }
