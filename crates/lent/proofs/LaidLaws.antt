@@ -1,5 +1,5 @@
 -- Bytes laid into a buffer from its beginning, one piece behind another. Assumes nothing.
-use Rattle.std.proofs.Common.{◌≡◌, ℕ, ◌+◌, ◌-◌, ◌≤◌, List, [], ◌∷◌, ◌++◌, length, set, refl, ap, ◌∙◌, arith, length-append}
+use Rattle.std.proofs.Common.{◌≡◌, ℕ, ◌+◌, ◌≤◌, List, [], ◌∷◌, ◌++◌, length, set, refl, ap, ◌∙◌, arith, length-append}
 use Rattle.buffers.specs.Bytes.{onto, over, laid}
 use Rattle.buffers.proofs.ByteLaws.{over_zero, length_over, over_one, over_over, laid_fits}
 

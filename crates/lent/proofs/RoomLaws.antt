@@ -1,5 +1,5 @@
 -- Where C joins the room, K as it is written, and sums of sizes. Assumes nothing.
-use Rattle.std.proofs.Common.{◌≡◌, ℕ, ◌+◌, ◌-◌, ◌≤◌, List, length, ap, ◌∙◌, subst, arith}
+use Rattle.std.proofs.Common.{◌≡◌, ℕ, ◌+◌, ◌≤◌, List, length, ap, ◌∙◌, subst, arith}
 use Rattle.limits.specs.Limits.{k_size, room_least}
 use Rattle.buffers.specs.Bytes.{onto, laid}
 use Rattle.buffers.proofs.ByteLaws.{over_zero, laid_fits}

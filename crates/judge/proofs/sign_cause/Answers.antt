@@ -1,6 +1,5 @@
 -- `judge::sign_cause` meets its contract. Assumes nothing.
-use borrow.Author.Rules.{rules}
-use Rattle.limits.proofs.BoolLaws.{holds, fails}
+use mathlib.Core.Path.{sym, ◌∙◌}
 use Rattle.judge.proofs.JudgeLaws.{sign_length, sign_out, sign_k, sign_good}
 use Rattle.judge.proofs.sign_cause.Goals as goal
 

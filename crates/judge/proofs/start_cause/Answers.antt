@@ -1,6 +1,5 @@
 -- `judge::start_cause` meets its contract. Assumes nothing.
-use borrow.Author.Rules.{rules}
-use Rattle.limits.proofs.BoolLaws.{holds, fails}
+use mathlib.Core.Path.{sym, ◌∙◌}
 use Rattle.judge.proofs.JudgeLaws.{start_low, start_high, start_role_low, start_role_high, start_room, start_field, start_good}
 use Rattle.judge.proofs.start_cause.Goals as goal
 

@@ -1,5 +1,4 @@
 -- `judge::verdict_cause` meets its contract. Assumes nothing.
-use borrow.Author.Tests.{not-true, not-false}
 use Rattle.judge.proofs.JudgeLaws.{verdict_short, verdict_bad, verdict_good}
 use Rattle.judge.proofs.verdict_cause.Goals as goal
 
@@ -11,14 +10,14 @@ returns-then-k_out-lt-K_SIZE c =
 pub returns-then-not-signature : goal.returns-then-not-signature
 returns-then-not-signature c =
     let a = c.args in
-    verdict_bad a.signature a.host_key a.k_out c.if-k_out-lt-K_SIZE.false (rw (not-true a.signature c.if-not-signature.true))
+    verdict_bad a.signature a.host_key a.k_out c.if-k_out-lt-K_SIZE.false (rw c.if-not-signature.true)
 
 pub returns-then-not-host_key : goal.returns-then-not-host_key
 returns-then-not-host_key c =
     let a = c.args in
-    verdict_bad a.signature a.host_key a.k_out c.if-k_out-lt-K_SIZE.false (rw (not-false a.signature c.if-not-signature.false, not-true a.host_key c.if-not-host_key.true))
+    verdict_bad a.signature a.host_key a.k_out c.if-k_out-lt-K_SIZE.false (rw (c.if-not-signature.false, c.if-not-host_key.true))
 
 pub returns : goal.returns
 returns c =
     let a = c.args in
-    verdict_good a.signature a.host_key a.k_out c.if-k_out-lt-K_SIZE.false (rw (not-false a.signature c.if-not-signature.false, not-false a.host_key c.if-not-host_key.false))
+    verdict_good a.signature a.host_key a.k_out c.if-k_out-lt-K_SIZE.false (rw (c.if-not-signature.false, c.if-not-host_key.false))

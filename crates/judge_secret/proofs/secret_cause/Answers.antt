@@ -17,7 +17,7 @@ use Rattle.judge_secret.proofs.secret_cause.Goals as goal
 -- behind X the KEM alone is left
 left : (j : Joined-zero_check) →
     let a = j.args in
-    cause_if (kem_bad a.kem) 17 0 ≡ secret_cause a.role a.method a.cl a.x.now a.kem a.k-pq.now a.ks.now a.s.now
+    cause_if (kem_bad a.kem) 17 0 ≡ secret_cause a.role a.method a.cl a.x.now a.kem a.k_pq.now a.ks.now a.s.now
 left j =
     let a = j.args in
     let g = j.cl-1.given in
@@ -29,7 +29,7 @@ left j =
     (λ h. no_check (row_of a.method).zero_check a.x.now (sym j.zero_check.ensures ∙ h.left))
     j.if-zero_check.branch
     in
-    secret-left a.role a.method a.cl a.x.now a.kem a.k-pq.now a.ks.now a.s.now g.0.0 g.1 (j.if-n-len.false ∙ l) (j.if-x-len.false ∙ l) (holds r j.if-not-rest_ok.false) z
+    secret-left a.role a.method a.cl a.x.now a.kem a.k_pq.now a.ks.now a.s.now g.0.0 g.1 (j.if-n-len.false ∙ l) (j.if-x-len.false ∙ l) (holds r j.if-not-rest_ok.false) z
 
 pub returns-in_default : goal.returns-in_default
 returns-in_default c =
@@ -57,7 +57,7 @@ returns-then-not-rest_ok c =
     let g = c.cl-1.given in
     let l = c.x_len-len.ensures in
     let r = c.rest_ok.ensures in
-    secret_rest a.role a.method a.cl a.x.now a.kem a.k_pq.now a.ks.now a.s.now g.0.0 g.1 (c.if-n-len.false ∙ l) (c.if-x-len.false ∙ l) (fails r c.if-not-rest_ok.true)
+    secret_rest a.role a.method a.cl a.x.now a.kem a.k_pq.now a.ks.now a.s.now g.0.0 g.1 (c.if-n-len.false ∙ l) (c.if-x-len.false ∙ l) (sym r ∙ c.if-not-rest_ok.true)
 
 pub returns-then-leading_zeros-x : goal.returns-then-leading_zeros-x
 returns-then-leading_zeros-x c =
@@ -65,7 +65,7 @@ returns-then-leading_zeros-x c =
     let g = c.cl-1.given in
     let l = c.x_len-len.ensures in
     let r = c.rest_ok.ensures in
-    secret-zero a.role a.method a.cl a.x.now a.kem a.k_pq.now a.ks.now a.s.now g.0.0 g.1 (c.if-n-len.false ∙ l) (c.if-x-len.false ∙ l) (holds r c.if-not-rest_ok.false) (rw (sym c.zero_check.ensures ∙ c.if-zero_check.true) (eq-eqb (leading_zeros a.x.now) (length a.x.now) (sym c.leading_zeros.ensures ∙ c.if-leading_zeros-x.true)))
+    secret-zero a.role a.method a.cl a.x.now a.kem a.k_pq.now a.ks.now a.s.now g.0.0 g.1 (c.if-n-len.false ∙ l) (c.if-x-len.false ∙ l) (sym r ∙ c.if-not-rest_ok.false) (rw (sym c.zero_check.ensures ∙ c.if-zero_check.true) (eq-eqb (leading_zeros a.x.now) (length a.x.now) (sym c.leading_zeros.ensures ∙ c.if-leading_zeros-x.true)))
 
 pub returns-in-Absent : goal.returns-in-Absent
 returns-in-Absent c = sym (if_fails _ 17 0 (ap kem_bad c.enum_told-in-Absent-1.given.1)) ∙ left (goal.at.returns-in-Absent c).Joined-zero_check
