@@ -11,10 +11,9 @@ use Rattle.wire.specs.Causes.{cause_unless}
 use Rattle.wire.proofs.CauseLaws.{unless_fails}
 use Rattle.limits.proofs.BoolLaws.{and_false}
 use Rattle.limits.proofs.RangeLaws.{within_high}
-use Rattle.methods.specs.Rows.{hybrid, row_of, rows, row_in, no_row}
+use Rattle.methods.specs.Rows.{hybrid, row_of, rows, no_row}
 use Rattle.methods.specs.declared.KForm.{KForm}
 use Rattle.methods.specs.declared.KForm.TheVariants.{Mpint, Digest}
-use Rattle.methods.specs.declared.Method.{Method}
 use Rattle.exchange.specs.Causes.{method_ok, role_ok, start_cause, again_cause, present, kem_ok, rest_ok, x_ok, secret_cause}
 use Rattle.exchange.specs.Record.{no_session, ended, completed}
 use Rattle.exchange.specs.Steps.{started, started_room}

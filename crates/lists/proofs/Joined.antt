@@ -1,14 +1,13 @@
 -- Ten lists that are laid one behind another, with their ends, are the lists of the KEXINIT that is asked for. Assumes nothing.
-use Prim.Native.Nat.{ℕ, suc, ◌+◌, ◌-◌, ◌≤◌}
+use Prim.Native.Nat.{ℕ, ◌+◌, ◌-◌}
 use mathlib.Core.Path.{◌≡◌, refl, sym, ap, ◌∙◌}
-use mathlib.Core.List.{List, [], ◌∷◌, ◌++◌, append_assoc, append-nil}
+use mathlib.Core.List.{List, [], ◌∷◌, ◌++◌, append_assoc}
 use native.Mathlib.Omega.{arith}
-use lib.ListN.{length, get_or, take, drop, length-append}
+use lib.ListN.{length, get_or, length-append}
 use lib.Seq.{get_or-append_seam, take-append_seam, drop-append_seam}
-use lib.Dec.{leb}
 use borrow.Author.Tests.{le-leb}
 use Rattle.limits.specs.Limits.{list_count}
-use Rattle.proposal.specs.Proposal.{Kexinit, kexinit_of}
+use Rattle.proposal.specs.Proposal.{kexinit_of}
 use Rattle.arguments.specs.Arguments.{is_yes}
 use Rattle.lists.specs.Lists.{list_at, lists_at, proposed, joined, ends_from}
 
