@@ -22,15 +22,14 @@ use Rattle.exchange.specs.Record.{no_lengths, completed}
 use Rattle.exchange.specs.Again.{again_number, versions_end, begun_again, again_room}
 use Rattle.exchange.specs.declared.Stage.TheVariants.{Started}
 use Rattle.exchange.specs.declared.Lengths.{Lengths}
-use Rattle.exchange.specs.declared.Exchange.{Exchange}
 use Rattle.exchange.proofs.CauseFacts.{again_known}
 use Rattle.exchange.proofs.DueLaws.{completed_known}
-use Rattle.stored.specs.Stored.{encoded, fits, lengths_in, number64, NumberBytes, decoded, by_fit, by_size, lengths_told, count_told}
+use Rattle.stored.specs.Stored.{encoded, fits, lengths_in, number64, NumberBytes, decoded, by_size, lengths_told, count_told}
 use Rattle.stored.proofs.StoredLaws.{role_read, size_taken, fits_known, fit_taken, fit_left}
 use Rattle.stored.proofs.RoundTrip.{session_stored}
 use Rattle.changes.specs.Changes.{put_head}
 use Rattle.changes.proofs.ChangeLaws.{head_put}
-use Rattle.lent.specs.Lent.{Left, left, untouched, again_left, lent_again}
+use Rattle.lent.specs.Lent.{left, untouched, again_left, lent_again}
 
 -- ---- again_cause
 
