@@ -1,5 +1,5 @@
 -- What own C, REPLY and the verdict know where they are accepted, and what they then tell and leave. Assumes nothing.
-use Prim.Native.Nat.{ℕ, ◌+◌, ◌≤◌, ◌-◌}
+use Prim.Native.Nat.{ℕ, ◌+◌, ◌≤◌}
 use mathlib.Core.Path.{◌≡◌, refl, sym, ap, ◌∙◌}
 use mathlib.Core.List.{List, [], ◌∷◌, ◌++◌, append-nil}
 use mathlib.Core.Bool.{Bool}
@@ -25,7 +25,7 @@ use Rattle.transcript.proofs.RoomLaws.{length_field, field_length_most}
 use Rattle.exchange.specs.Causes.{reply_cause, own_c_cause, verdict_cause}
 use Rattle.exchange.specs.Record.{k_length}
 use Rattle.exchange.specs.Steps.{reply, fed_cause, number, own_c, head_end, fields_end, standing_c, filled, with_c, with_s, taken, count_of, room_after, step_part, verdict, with_stage, with_last, head_size, fields_size}
-use Rattle.exchange.specs.declared.Stage.TheVariants.{CSent, ReplyRead, Complete}
+use Rattle.exchange.specs.declared.Stage.TheVariants.{CSent, ReplyRead}
 use Rattle.exchange.specs.declared.Exchange.{Exchange}
 use Rattle.exchange.specs.declared.Lengths.{Lengths}
 use Rattle.exchange.proofs.CauseFacts.{method_row, own_c_formed, reply_formed}

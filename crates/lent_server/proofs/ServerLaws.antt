@@ -1,5 +1,5 @@
 -- What INIT and the signature know where they are accepted, and what they then tell and leave. Assumes nothing.
-use Prim.Native.Nat.{ℕ, ◌+◌, ◌≤◌, ◌-◌}
+use Prim.Native.Nat.{ℕ, ◌+◌, ◌≤◌}
 use mathlib.Core.Path.{◌≡◌, refl, sym, ap, ◌∙◌}
 use mathlib.Core.List.{List, [], ◌∷◌, ◌++◌, append_assoc, append-nil}
 use mathlib.Core.Bool.{Bool, true, false, cond, ◌||◌, false≢true}
@@ -27,7 +27,7 @@ use Rattle.transcript.proofs.RoomLaws.{field_length_most}
 use Rattle.exchange.specs.Causes.{init_cause, blob_ok, sign_cause}
 use Rattle.exchange.specs.Record.{due, k_length}
 use Rattle.exchange.specs.Steps.{init, step_number, fed_cause, number, head_end, fields_end, filled, with_c, taken, count_of, second_of, room_after, step_part, sign, standing_ks, standing_s, reply_of, with_stage, with_last, head_size, fields_size}
-use Rattle.exchange.specs.declared.Stage.TheVariants.{InitRead, Complete}
+use Rattle.exchange.specs.declared.Stage.TheVariants.{InitRead}
 use Rattle.exchange.specs.declared.Exchange.{Exchange}
 use Rattle.exchange.specs.declared.Lengths.{Lengths}
 use Rattle.exchange.specs.Numbers.{is_fault}

@@ -1,0 +1,30 @@
+-- `client::read_reply` meets its contract. Assumes nothing.
+use borrow.Author.Rules.{rules}
+use mathlib.Core.Path.{refl, ◌∙◌}
+use Rattle.exchange.specs.Steps.{reply, count_of, second_of, position_of}
+use Rattle.lent.proofs.AsStep.{reply_size}
+use Rattle.by_value.proofs.ValueLaws.{Sized, value_long, value_read}
+use Rattle.client.proofs.read_reply.Goals.{Start}
+use Rattle.client.proofs.read_reply.Goals as goal
+
+sizes : (c : Start) → Sized c.args.e
+sizes c = (search rules, search rules, search rules)
+
+pub returns-then-not-lay : goal.returns-then-not-lay
+returns-then-not-lay c =
+    let a = c.args in
+    let e = a.e in
+    let r = a.room.now in
+    let q = reply a.payload.now in
+    let v = value_long e r q _ _ c.lay.ensures c.if-not-lay.true in
+    (c.not_due.ensures ∙ v.0, v.1)
+
+pub returns : goal.returns
+unfolding count_of second_of position_of
+returns c =
+    let a = c.args in
+    let e = a.e in
+    let r = a.room.now in
+    let q = reply a.payload.now in
+    let v = value_read e r q _ _ c.lay.ensures c.if-not-lay.false (sizes (goal.at.returns c).Start) _ _ _ _ _ _ c.read_reply-n.ensures (reply_size e r a.payload.now) refl refl refl in
+    (c.answer.ensures ∙ v.0, v.1)

@@ -1,0 +1,8 @@
+-- `parts::init_number` meets its contract. Assumes nothing.
+use Rattle.exchange.proofs.StepLaws.{init_number}
+use Rattle.parts.proofs.init_number.Goals as goal
+
+pub returns : goal.returns
+returns c =
+    let a = c.args in
+    init_number a.e a.room.now a.payload.now _ _ c.step_number.ensures c.init_cause-fed.ensures
