@@ -1,4 +1,5 @@
 -- `client::own_c` meets its contract. Assumes nothing.
+use mathlib.Core.Bool.{not}
 use borrow.Author.Rules.{rules}
 use Prim.Native.Nat.{ℕ}
 use mathlib.Core.Path.{refl, ap, ◌∙◌}
@@ -21,7 +22,7 @@ returns-then-not-lay c =
     let e = a.e in
     let r = a.room.now in
     let q = own_c a.c.now (length a.out.now) in
-    let v = value_long e r q _ _ c.lay.ensures c.if-not-lay.true in
+    let v = value_long e r q _ _ c.lay.ensures (ap not c.if-not-lay.true) in
     (c.not_due.ensures ∙ v.0, v.1, output_refused _ a.out.now (init_bytes a.c.now) v.2)
 
 pub returns : goal.returns
@@ -31,5 +32,5 @@ returns c =
     let e = a.e in
     let r = a.room.now in
     let q = own_c a.c.now (length a.out.now) in
-    let v = value_step e r q _ _ c.lay.ensures c.if-not-lay.false (sizes (goal.at.returns c).Start) (a.out.now ∷ []) _ _ _ _ _ c.own_c-n.ensures _ _ _ (λ w. (ap (λ (l : List ℕ). get_or l 0 0) w.told_is, second_none e r q refl)) refl in
+    let v = value_step e r q _ _ c.lay.ensures (ap not c.if-not-lay.false) (sizes (goal.at.returns c).Start) (a.out.now ∷ []) _ _ _ _ _ c.own_c-n.ensures _ _ _ (λ w. (ap (λ (l : List ℕ). get_or l 0 0) w.told_is, second_none e r q refl)) refl in
     (c.answer.ensures ∙ v.0, v.1, ap (λ (l : List (List ℕ)). get_or l 0 []) v.2)

@@ -1,4 +1,5 @@
 -- `client::verdict` meets its contract. Assumes nothing.
+use mathlib.Core.Bool.{not}
 use borrow.Author.Rules.{rules}
 use Prim.Native.Nat.{ℕ}
 use mathlib.Core.Path.{refl, ap, ◌∙◌}
@@ -20,7 +21,7 @@ returns-then-not-lay c =
     let e = a.e in
     let r = a.room.now in
     let q = verdict a.signature a.host_key (length a.k_out.now) in
-    let v = value_long e r q _ _ c.lay.ensures c.if-not-lay.true in
+    let v = value_long e r q _ _ c.lay.ensures (ap not c.if-not-lay.true) in
     (c.not_due.ensures ∙ v.0, v.1, output_refused _ a.k_out.now e.k v.2)
 
 pub returns : goal.returns
@@ -30,5 +31,5 @@ returns c =
     let e = a.e in
     let r = a.room.now in
     let q = verdict a.signature a.host_key (length a.k_out.now) in
-    let v = value_step e r q _ _ c.lay.ensures c.if-not-lay.false (sizes (goal.at.returns c).Start) (a.k_out.now ∷ []) _ _ _ _ _ c.verdict-n.ensures _ _ _ (λ w. (ap (λ (l : List ℕ). get_or l 0 0) w.told_is, second_none e r q refl)) refl in
+    let v = value_step e r q _ _ c.lay.ensures (ap not c.if-not-lay.false) (sizes (goal.at.returns c).Start) (a.k_out.now ∷ []) _ _ _ _ _ c.verdict-n.ensures _ _ _ (λ w. (ap (λ (l : List ℕ). get_or l 0 0) w.told_is, second_none e r q refl)) refl in
     (c.answer.ensures ∙ v.0, v.1, ap (λ (l : List (List ℕ)). get_or l 0 []) v.2)
