@@ -5,10 +5,10 @@ use mathlib.Core.List.{List}
 use lib.ListN.{length, take}
 use Rattle.limits.specs.Limits.{room_least}
 use Rattle.buffers.specs.Bytes.{onto}
-use Rattle.exchange.specs.Causes.{start_cause, h_of}
+use Rattle.exchange.specs.Causes.{start_cause}
 use Rattle.exchange.specs.Steps.{Call, secret, sign, verdict, number, count_of, second_of, answered, secret_answered, reply_of, output_after, started, started_room}
 use Rattle.exchange.specs.Again.{Turn}
-use Rattle.exchange.specs.Book.{Book, opened, noted, last_book, hash_input}
+use Rattle.exchange.specs.Book.{Book, opened, last_book}
 use Rattle.exchange.specs.declared.Step.{Step}
 use Rattle.exchange.specs.declared.SecretStep.{SecretStep}
 use Rattle.exchange.specs.declared.Exchange.{Exchange}

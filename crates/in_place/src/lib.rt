@@ -72,11 +72,12 @@ pub fn take_secret_in(
 {
     let r = steps::take_secret(*e, room, cl, x, kem, k_pq, ks, s);
     *e = r.step.exchange;
+    let h = r.h;
     SecretCounts {
         number: r.step.number,
         count: r.step.count,
         second: r.step.second,
-        h: r.h,
+        h,
     }
 }
 
@@ -147,6 +148,7 @@ pub fn take_secret_on_copy(
 {
     let mut y = e;
     let a = take_secret_in(&mut y, room, cl, x, kem, k_pq, ks, s);
+    let h = a.h;
     SecretStep {
         step: Step {
             number: a.number,
@@ -155,7 +157,7 @@ pub fn take_secret_on_copy(
             exchange: y,
             position: 0,
         },
-        h: a.h,
+        h,
     }
 }
 
