@@ -33,12 +33,13 @@ test: ## the gate: every proof from nothing, every edit that must be refused, th
 checks: host-test targets help-test package-test ## all that the gate does behind the proofs
 
 # What the programs read and what they must print, held to the captures, to published digests and keys, and to an account of the specification of its own;
-# the pictures, to the tables of the code; and what cites the specification, to its rules.
-vectors: ## what programs print, the pictures, and the specification's numbers
+# the exports, to the functions that they call; the pictures, to the tables of the code; and what cites the specification, to its rules.
+vectors: ## what programs print, what is exported, the pictures, and the specification's numbers
 	python3 tests/expect_views.py --check
 	python3 tests/expect_in_place.py --check
 	python3 tests/expect_sha2.py --check
 	python3 tests/expect_keys.py --check
+	python3 tests/exports.py --check
 	python3 docs/draw.py --check
 	python3 tests/cited.py
 
