@@ -47,7 +47,7 @@ vectors: ## what programs print, what is exported, the pictures, and the specifi
 kit:
 	@$(if $(ASKED),,sh tests/needs.sh kit)
 
-# The static library, for speed and for size: proved first (some four minutes from nothing), and left alone where nothing that it is made
+# The static library, for speed and for size: proved first (some minutes from nothing), and left alone where nothing that it is made
 # of changed. TARGET names another machine to build it for, one of TARGETS or several; those archives go into build/TARGET/.
 lib: kit ## the static library in build/, proved first; with TARGET=aarch64 for that machine too
 	@sh host/lib.sh $(sort x86-64 $(TARGET))
@@ -56,10 +56,10 @@ lib: kit ## the static library in build/, proved first; with TARGET=aarch64 for 
 $(LIB) $(SMALL): lib
 	@:
 
-# Whether the library for speed is byte for byte what rt makes by itself. It proves the last crate again, in some 20 seconds.
+# Whether the library for speed is byte for byte what rt makes by itself, for every x86-64 as here. It proves what rt has not, and builds it.
 same: lib ## whether the library is byte for byte what rt makes by itself
-	@rt staticlib boundary > build/staticlib.log 2>&1 || { tail -n 20 build/staticlib.log; exit 1; }
-	cmp target/staticlib/libboundary.a $(LIB)
+	@cd crates/boundary_c && rt lib --cpu x86-64 > ../../build/same.log 2>&1 || { tail -n 20 ../../build/same.log; exit 1; }
+	cmp crates/boundary_c/out/libboundary_c.a $(LIB)
 
 # Debian's packages, installed where what they have is missing: what a host on OpenSSL and its tests need, and what makes and runs programs for other
 # machines. Cross behind the others: apt-get runs once at a time.
