@@ -174,17 +174,22 @@ fi
 
 # ---- the archives. rattle takes the verdict only where the inputs are those that were checked.
 
+# What rattle takes for its toolchain is made of links, and rt takes no checkout with a link in it.
+scratch=$(mktemp -d)
+trap 'rm -rf "$scratch"' EXIT
+trap 'exit 130' HUP INT TERM
+
 build() { # TARGET VARIANT
     file=$(file_of "$1" "$2")
-    tools=$root/build/toolchain/$1-$2
-    mkdir -p "$(dirname "$file")" "$tools/bin"
-    ln -sfn "$kit/toolchain/lib" "$tools/lib"
-    for tool in llvm-ar ld.lld rattle-x64; do ln -sf "$kit/toolchain/bin/$tool" "$tools/bin/"; done
+    tools=$scratch/$1-$2 compiled=$root/build/compiled/$1-$2
+    mkdir -p "$(dirname "$file")" "$tools/bin" "$compiled"
+    ln -s "$kit/toolchain/lib" "$tools/lib"
+    for tool in llvm-ar ld.lld rattle-x64; do ln -s "$kit/toolchain/bin/$tool" "$tools/bin/"; done
     # rattle hands on no environment; what it hands on stays, for `make measure` to compile again
     cat >"$tools/bin/clang" <<END
 #!/bin/sh
 export PATH="$PATH"
-cp module.bc "$tools/" && printf '%s\n' "$kit/toolchain/bin/clang" "\$@" >"$tools/words" || exit 1
+cp module.bc "$compiled/" && printf '%s\n' "$kit/toolchain/bin/clang" "\$@" | grep -v '^--sysroot=' >"$compiled/words" || exit 1
 exec sh "$root/host/clang.sh" "$kit/toolchain/bin/clang" $1 $2 "\$@"
 END
     chmod +x "$tools/bin/clang"
