@@ -26,19 +26,20 @@ demo: ## prove and build the library, and let a host on OpenSSL meet a real sshd
 	@python3 tests/live/demo.py --dock build/dock --bench build/bench --steps build/demo.txt $(if $(VERBOSE),--verbose)
 
 # The gate. Its last line is that of rt ci, printed where all else passed too.
-test: ## the gate: every proof from nothing, every edit that must be refused, then the compiled library (half an hour on two cores)
+test: ## the gate: every proof from nothing, every edit that must be refused, then the compiled library (half an hour and more from nothing)
 	@sh tests/gate.sh
 
 # What the gate asks of what was proved. Packages behind the other machines' archives: it packs those that it finds whole.
 checks: host-test targets help-test package-test ## all that the gate does behind the proofs
 
 # What the programs read and what they must print, held to the captures, to published digests and keys, and to an account of the specification of its own;
-# the pictures, to the tables of the code; and what cites the specification, to its rules.
-vectors: ## what programs print, the pictures, and the specification's numbers
+# the exports, to the functions that they call; the pictures, to the tables of the code; and what cites the specification, to its rules.
+vectors: ## what programs print, what is exported, the pictures, and the specification's numbers
 	python3 tests/expect_views.py --check
 	python3 tests/expect_in_place.py --check
 	python3 tests/expect_sha2.py --check
 	python3 tests/expect_keys.py --check
+	python3 tests/exports.py --check
 	python3 docs/draw.py --check
 	python3 tests/cited.py
 
@@ -46,7 +47,7 @@ vectors: ## what programs print, the pictures, and the specification's numbers
 kit:
 	@$(if $(ASKED),,sh tests/needs.sh kit)
 
-# The static library, for speed and for size: proved first (some four minutes from nothing), and left alone where nothing that it is made
+# The static library, for speed and for size: proved first (some minutes from nothing), and left alone where nothing that it is made
 # of changed. TARGET names another machine to build it for, one of TARGETS or several; those archives go into build/TARGET/.
 lib: kit ## the static library in build/, proved first; with TARGET=aarch64 for that machine too
 	@sh host/lib.sh $(sort x86-64 $(TARGET))
@@ -55,10 +56,10 @@ lib: kit ## the static library in build/, proved first; with TARGET=aarch64 for 
 $(LIB) $(SMALL): lib
 	@:
 
-# Whether the library for speed is byte for byte what rt makes by itself. It proves the last crate again, in some 20 seconds.
+# Whether the library for speed is byte for byte what rt makes by itself, for every x86-64 as here. It proves what rt has not, and builds it.
 same: lib ## whether the library is byte for byte what rt makes by itself
-	@rt staticlib boundary > build/staticlib.log 2>&1 || { tail -n 20 build/staticlib.log; exit 1; }
-	cmp target/staticlib/libboundary.a $(LIB)
+	@cd crates/boundary_c && rt lib --cpu x86-64 > ../../build/same.log 2>&1 || { tail -n 20 ../../build/same.log; exit 1; }
+	cmp crates/boundary_c/out/libboundary_c.a $(LIB)
 
 # Debian's packages, installed where what they have is missing: what a host on OpenSSL and its tests need, and what makes and runs programs for other
 # machines. Cross behind the others: apt-get runs once at a time.

@@ -32,14 +32,14 @@ PREFIX = 4
 COLOURS = {'vc': '#dbe8f5', 'vs': '#dbe8f5', 'ic': '#b9d4ea', 'is': '#b9d4ea', 'ks': '#f5e3c0', 'c': '#d5ecca', 's': '#e2d8f0', 'k': '#f3c9c9'}
 BOUNDS = {'vc': 'VERSION_MOST', 'vs': 'VERSION_MOST', 'ic': 'KEXINIT_MOST', 'is': 'KEXINIT_MOST', 'ks': 'BLOB_MOST'}
 # the fields that not every stage has, and the definition that says which have them
-HAS = {'c': 'hasC', 'ks': 'hasS', 's': 'hasS', 'k': 'hasK'}
+HAS = {'c': 'has_c', 'ks': 'has_s', 's': 'has_s', 'k': 'has_k'}
 # the stages in running text
 NAMES = {
     'STARTED': 'started', 'C_SENT': 'C sent', 'INIT_READ': 'INIT read', 'REPLY_READ': 'REPLY read', 'SECRET_DONE': 'secret done',
     'COMPLETE': 'complete', 'FAILED': 'failed',
 }
 # the definitions' steps, by the header's entries
-ENTRIES = {'ownC': 'own_c', 'init': 'read_init', 'reply': 'read_reply', 'secret': 'take_secret', 'sign': 'sign', 'verdict': 'verdict'}
+ENTRIES = {'own_c': 'own_c', 'init': 'read_init', 'reply': 'read_reply', 'secret': 'take_secret', 'sign': 'sign', 'verdict': 'verdict'}
 # the header's calls on an exchange that are no steps, and what a picture says of each
 NO_STEPS = {
     'state': 'at every stage: stage, fail, role and method',
@@ -52,13 +52,13 @@ NO_STEPS = {
 }
 # what the pictures say in words, and where a definition says it
 SAID = [
-    (STEPS, 'started', 'ended (startCause', 'a refused start leaves a failed exchange'),
-    (STEPS, 'startedRoom', '++ field is)) room', 'a refused start leaves the room'),
-    (STEPS, 'roomAfter', 'room (zeros (length room))', 'a fault fills the room with zeros'),
-    (STEPS, 'exchangeAfter', 'ended (number e room q) (e .role) (e .method) (e .session)', 'a fault leaves role, method, number and session'),
-    (RECORD, 'ended', 'k = zeros kSize; h = zeros hSize; session = session', 'a fault makes K and H zeros'),
-    (AGAIN, 'begunAgain', 'k = zeros kSize; h = zeros hSize; session = e .session', 'again makes K and H zeros and keeps the session'),
-    (AGAIN, 'againAfter', '(length is)) e', 'a refused again leaves the exchange'),
+    (STEPS, 'started', 'ended (start_cause', 'a refused start leaves a failed exchange'),
+    (STEPS, 'started_room', '++ field is)) room', 'a refused start leaves the room'),
+    (STEPS, 'room_after', 'room (zeros (length room))', 'a fault fills the room with zeros'),
+    (STEPS, 'exchange_after', 'ended (number e room q) e.role e.method e.session', 'a fault leaves role, method, number and session'),
+    (RECORD, 'ended', 'k = zeros k_size; h = zeros h_size; session = session', 'a fault makes K and H zeros'),
+    (AGAIN, 'begun_again', 'k = zeros k_size; h = zeros h_size; session = e.session', 'again makes K and H zeros and keeps the session'),
+    (AGAIN, 'again_after', '(length is)) e', 'a refused again leaves the exchange'),
 ]
 
 Method = collections.namedtuple('Method', 'number name c s x form digest')
@@ -109,14 +109,14 @@ def by_variant(path, name, variants=()):
 def causes(path, name):
     """The numbers of a definition that gives the first cause, those of the causes that it cites among them."""
     words, found = equal(path, name), set()
-    for cause in re.finditer(r'cause(?:If|Unless) ', words):
+    for cause in re.finditer(r'cause_(?:if|unless) ', words):
         at, depth = cause.end(), 0
         while depth or words[at] != ' ':
             depth += {'(': 1, ')': -1}.get(words[at], 0)
             at += 1
         found.add(int(need(re.match(r' (\d+)', words[at:]), f'{path}: {name} has a cause with no number')[1]))
-    for cited in re.findall(r'\w+Cause\b', words):
-        found |= causes(PAYLOAD if cited == 'messageCause' else CAUSES, cited)
+    for cited in re.findall(r'\w+_cause\b', words):
+        found |= causes(PAYLOAD if cited == 'message_cause' else CAUSES, cited)
     return found
 
 
@@ -151,27 +151,27 @@ def methods(last):
 
 def k_most(method):
     """The most bytes that K's body can have, by the definition's own sum."""
-    forms = {given.split()[0]: words for given, words in equations(ROWS, 'mostBy')}
-    words = need(forms.get(method.form), f'{ROWS}: mostBy does not say how long K is in the form {method.form}')
+    forms = {given.split()[0]: words for given, words in equations(ROWS, 'most_by')}
+    words = need(forms.get(method.form), f'{ROWS}: most_by does not say how long K is in the form {method.form}')
     return sum(int(term) if term.isdigit() else getattr(method, term) for term in words.split(' + '))
 
 
 @functools.lru_cache(None)
 def fault_range():
-    found = need(re.fullmatch(r'within (\d+) (\d+) n', equal(NUMBERS, 'isFault')), f'{NUMBERS}: isFault is no range of numbers')
+    found = need(re.fullmatch(r'within (\d+) (\d+) n', equal(NUMBERS, 'is_fault')), f'{NUMBERS}: is_fault is no range of numbers')
     return range(int(found[1]), int(found[2]) + 1)
 
 
 def path_of(role, variants):
     """The steps of a role, from the start on, by the definitions."""
-    due = by_variant(RECORD, f'{role}Next', variants)
-    calls = {number: call for call, number in by_variant(STEPS, 'stepNo').items()}
-    fed, taken = by_variant(STEPS, 'fedCause', calls.values()), by_variant(STEPS, 'taken', calls.values())
+    due = by_variant(RECORD, f'{role}_next', variants)
+    calls = {number: call for call, number in by_variant(STEPS, 'step_no').items()}
+    fed, taken = by_variant(STEPS, 'fed_cause', calls.values()), by_variant(STEPS, 'taken', calls.values())
     stage, steps = 'Started', []
     while due[stage] != '0' and len(steps) < len(variants):
         call = calls.get(due[stage])
         need(call in ENTRIES, f'{RECORD}: a {role} has step {due[stage]} behind {stage}, {call}, and the picture has no entry for it')
-        given = causes(STEPS, 'stepNumber') | causes(CAUSES, fed[call].split()[0])
+        given = causes(STEPS, 'step_number') | causes(CAUSES, fed[call].split()[0])
         # the stage is named there, or in the record that is cited there
         after = re.search(rf'\b({"|".join(variants)})\b', taken[call]) or re.search(r'stage = (\w+)', equal(STEPS, taken[call].split()[0]))
         after = need(after, f'{STEPS}: taken does not say where {call} leads')[1]
@@ -192,7 +192,7 @@ def tables():
     define = need(re.search(r'^#define CASTULFRISA_ROOM (\d+)', read(HEADER), re.M), f'{HEADER} has no CASTULFRISA_ROOM')[1]
     need(int(define) == room, f'CASTULFRISA_ROOM in {HEADER} is {define}, and ROOM_LEAST in {LIMITS} is {room}')
 
-    fields = re.findall(r'f \.(\w+)', equal(BOOK, 'hashInput'))
+    fields = re.findall(r'\bf\.(\w+)', equal(BOOK, 'hash_input'))
     need(fields == list(COLOURS), f'{BOOK}: the hash input has the fields {" ".join(fields)}, and the picture {" ".join(COLOURS)}')
     rows = methods(limit['METHOD_LAST'])
     most = {row.number: {**{field: limit[bound] for field, bound in BOUNDS.items()}, 'c': row.c, 's': row.s, 'k': k_most(row)} for row in rows}
@@ -211,7 +211,7 @@ def tables():
 
     steps = [step for path in paths.values() for step in path]
     faults, refusals = (set().union(*(getattr(step, kind) for step in steps)) for kind in ('faults', 'refusals'))
-    refused, again = causes(CAUSES, 'startCause'), causes(AGAIN, 'againNumber')
+    refused, again = causes(CAUSES, 'start_cause'), causes(AGAIN, 'again_number')
     check_numbers(faults, refusals, refused | again)
     check_entries(paths)
     for path, name, there, what in SAID:
@@ -221,8 +221,8 @@ def tables():
     has = {field: by_variant(RECORD, name, variants) for field, name in HAS.items()}
     standing = {name: [field for field in fields if field not in has or has[field][variant] == 'true']
                 for variant, name in variants.items() if name != 'FAILED'}
-    kept = re.findall(r'(\w+) = l \.\1\b', equal(AGAIN, 'againLengths'))
-    need(kept and fields[:len(kept)] == kept, f'{AGAIN}: againLengths keeps {" ".join(kept)}, which the hash input does not begin with')
+    kept = re.findall(r'(\w+) = l\.\1\b', equal(AGAIN, 'again_lengths'))
+    need(kept and fields[:len(kept)] == kept, f'{AGAIN}: again_lengths keeps {" ".join(kept)}, which the hash input does not begin with')
     begun = standing['STARTED']
     need(fields[:len(begun)] == begun, f'{RECORD}: a started exchange has {" ".join(begun)}, which the hash input does not begin with')
     return Tables(room, fields, rows, most, inputs, largest, stages, words, roles, paths, standing, faults, refusals, refused, again, kept)
@@ -231,7 +231,7 @@ def tables():
 def stage_names():
     """The header's stages, with their numbers and with their words; and from the definitions' names to the header's."""
     header = enum('stage')
-    stored = {variant: int(number) for variant, number in by_variant(STORED, 'stageNumber').items()}
+    stored = {variant: int(number) for variant, number in by_variant(STORED, 'stage_number').items()}
     variants = {variant: re.sub(r'(?<!^)(?=[A-Z])', '_', variant).upper() for variant in stored}
     for variant, name in variants.items():
         need(name in header, f'{HEADER} has no stage CASTULFRISA_{name}, and {STORED} has {variant}, {stored[variant]}')

@@ -1,7 +1,7 @@
 #!/bin/sh
 # The compiler that rattle calls with the proved module (lib.sh sees to it): the kit's own, its call turned for a machine, and for speed or
 # size. rattle calls it in a folder of its own, with no environment, as
-#   clang --target=x86_64-unknown-linux-gnu -march=x86-64 .. -c -x ir module.bc -o module.o -fPIC -O3 --sysroot=DIR
+#   clang --target=x86_64-unknown-linux-gnu --sysroot=DIR -march=x86-64 .. -Werror -c -x ir module.bc -o module.o -fPIC -O3
 # usage: clang.sh CLANG TARGET VARIANT WORDS...   or: clang.sh targets
 set -eu
 if [ "$*" = targets ]; then echo x86-64 aarch64 riscv64 armv7 cortex-m3; exit; fi
@@ -9,7 +9,7 @@ if [ $# -lt 3 ]; then sed -n '/^# usage: /s/^# //p' "$0" >&2; exit 2; fi
 clang=$1 target=$2 variant=$3
 shift 3
 
-# As it came: what `rt staticlib` makes.
+# As it came: what `rt lib` makes.
 if [ "$target $variant" = 'x86-64 speed' ]; then exec "$clang" "$@"; fi
 
 case $target in
@@ -45,7 +45,7 @@ done
 
 case $variant in
 speed) exec "$clang" "$@" "$module" ;;
-# Two rounds: -Oz to bitcode, and from there -O3, which alone has slices passed in registers. Every function is marked minsize: the level by
+# Two rounds: -Oz to bitcode, and from there -O3, which alone has records passed in registers. Every function is marked minsize: the level by
 # itself changes nothing in how code is generated from a module.
 small)
     set -- "$@" -mllvm -force-attribute=minsize

@@ -16,7 +16,7 @@ from collections import Counter
 MOST = 8
 NAME = r'(@"[^"]+"|@[\w.]+)'
 CALL = rf'^  (?:%\w+ = )?call [^@\n]*{NAME}\((.*)\)'
-X86 = ' "probe-stack"="inline-asm" "target-cpu"="x86-64"'
+X86 = ' "probe-stack"="inline-asm" "stack-probe-size"="3072" "target-cpu"="x86-64"'
 
 
 def parted(text):

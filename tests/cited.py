@@ -1,5 +1,5 @@
 #!/usr/bin/env python3
-"""Whether what cites docs/SPECIFICATION.md cites rules that are there, and whether every rule is promised.
+"""Whether what cites docs/SPECIFICATION.md cites rules that are there, whether every rule is promised, and whether what promises it is there.
 
 usage: cited.py
 
@@ -7,6 +7,7 @@ usage: cited.py
 - Every rule stands in docs/PROMISES.md, but for those of section 1, which are words; and every number cited there, in docs/DECISIONS.md and behind the
   word SPECIFICATION in any other file is one of a rule or of a section.
 - Every rule that is marked (open) stands in section 16 and has its decision in docs/DECISIONS.md, and no other does.
+- Every name that docs/PROMISES.md, docs/CHANGING.md, docs/DECISIONS.md and README.md have in `..` stands in a source.
 - No file cites a numbered paper that is not in the repository.
 It needs nothing built and takes a second. Exits 0, 1 with a line for each fault, 2 where it is called wrongly.
 """
@@ -25,6 +26,10 @@ NUMBER = r"\d+(?:\.\d+){0,2}"
 SPAN = re.compile(rf"({NUMBER}) to ({NUMBER})")
 # numbers behind these are of sections elsewhere
 SOURCE = re.compile(r"(RFC \d+|FIPS [\d-]+|SEC 1|draft|sections?)[^|;()]*")
+# a name by itself, or at the end of a path; what begins or ends with _ is a part of some
+CITED = re.compile(r"`((?:\w+(?:::|\.))*[^\W_]\w*(?<!_))`")
+NAMING = "docs/PROMISES.md", "docs/CHANGING.md", "docs/DECISIONS.md", "README.md"
+SOURCES = re.compile(r"(crates/\w+/(src|specs|proofs)/|include/|host/|tests/|packaging/|crates\.txt$|Makefile$)")
 # papers by a number, and points of them
 ELSEWHERE = re.compile(r"\b[Dd]ocuments? \d|\b[Rr]equest #\d|\bG1\d\d[a-k]\b")
 
@@ -73,6 +78,7 @@ def faults():
         yield f"docs: there is no {number}"
 
     listing = subprocess.run(["git", "ls-files", "--cached", "--others", "--exclude-standard"], capture_output=True, text=True)
+    named = set()
     for path in listing.stdout.splitlines():
         if path == "tests/cited.py" or not os.path.isfile(path):
             continue
@@ -80,12 +86,18 @@ def faults():
             words = read(path)
         except UnicodeDecodeError:
             continue  # what a program reads
+        if SOURCES.match(path):
+            named |= {*re.findall(r"\w+", words), *re.findall(r"\w+", path)}
         for run in re.findall(rf"SPECIFICATION(?:\.md,)? ({NUMBER}(?:(?:, | to | and |\n\W*){NUMBER})*)", words):
             for number in spread(run):
                 if number not in known:
                     yield f"{path}: there is no {number}"
         for found in ELSEWHERE.findall(words):
             yield f"{path}: cites '{found}', which is not here"
+    for page in NAMING:
+        for cited in sorted(set(CITED.findall(read(page)))):
+            if not {*re.findall(r"\w+", cited)} <= named:
+                yield f"{page}: no source has {cited}"
 
 
 def main():
@@ -95,7 +107,7 @@ def main():
     for fault in found:
         print(f"cited: {fault}")
     if not found:
-        print("cited: every rule is promised, every open one decided, and every number that is cited is there")
+        print("cited: every rule is promised, every open one decided, and every number and name that is cited is there")
     return 1 if found else 0
 
 

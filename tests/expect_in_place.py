@@ -3,7 +3,7 @@
 
 usage: expect_in_place.py [--check]
 
-Writes crates/in_place_run/stdin and stdout; with --check it only compares, as `make vectors` does. `rt check in_place_run` proves and runs the
+Writes crates/in_place_run/stdin and stdout; with --check it only compares, as `make vectors` does. `rt ci in_place_run` proves and runs the
 program, and holds it to its stdout.
 It needs nothing that is built, and takes a tenth of a second. Exits 0, 1 where a file is stale or cannot be read, 2 where it is called wrongly.
 """

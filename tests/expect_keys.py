@@ -4,7 +4,7 @@ a digest ends or begins.
 
 usage: expect_keys.py [--check]
 
-Writes crates/keys_run/stdin and stdout; with --check it only compares, as `make vectors` does. `rt check keys_run` proves and runs the program,
+Writes crates/keys_run/stdin and stdout; with --check it only compares, as `make vectors` does. `rt ci keys_run` proves and runs the program,
 and holds it to its stdout.
 It needs nothing that is built, and takes a tenth of a second. Exits 0, 1 where a file is stale or cannot be read, 2 where it is called wrongly.
 """

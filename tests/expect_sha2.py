@@ -4,7 +4,7 @@
 usage: expect_sha2.py --check | --from DIR
 
 --check holds crates/sha2_run/stdin and stdout to hashlib, and to how many messages there are, as `make vectors` does. --from writes both from NIST's
-files SHA*ShortMsg.rsp and SHA*LongMsg.rsp in DIR, those messages that have at most 65,536 bytes. `rt check sha2_run` proves and runs the program, and
+files SHA*ShortMsg.rsp and SHA*LongMsg.rsp in DIR, those messages that have at most 65,536 bytes. `rt ci sha2_run` proves and runs the program, and
 holds it to its stdout.
 It needs nothing that is built, and takes a tenth of a second. Exits 0, 1 where the files are others or cannot be read, 2 where it is called wrongly.
 """

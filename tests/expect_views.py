@@ -4,7 +4,7 @@
 usage: expect_views.py [--check]
 
 Writes crates/views_run/stdin and stdout; with --check it only compares, as `make vectors` does. The payloads: a captured one, a made one with an
-empty list and bad names, the same with another message number, and the same without its last byte. `rt check views_run` proves and runs the program, and holds it to its stdout.
+empty list and bad names, the same with another message number, and the same without its last byte. `rt ci views_run` proves and runs the program, and holds it to its stdout.
 It needs nothing that is built, and takes a tenth of a second. Exits 0, 1 where a file is stale or cannot be read, 2 where it is called wrongly.
 """
 import re

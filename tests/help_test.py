@@ -22,7 +22,7 @@ PROGRAMS = [ROOT / 'build' / name for name in ('bench', *HEADERS, *STACKS, *RUST
 # calls about files and programs that are not there; '.' is an empty folder
 NOTHING = {
     'bench_test.py': [['no/bench'], ['.']], 'worked_test.py': [['no/bench'], ['.']], 'expect_sha2.py': [['--from', 'no/folder'], ['--from', '.']], 'measure.py': [['no/timing', 'no/small']],
-    'refused.py': [['no_crate']], 'targets.py': [['no/script', 'no/answers']], 'captures': [['no/folder']],
+    'refused.py': [['no_crate'], ['--log', 'no/log']], 'targets.py': [['no/script', 'no/answers']], 'captures': [['no/folder']],
 }
 # and those that must have words
 WORDS = {'bench_test.py', 'worked_test.py', 'expect_sha2.py', 'libcrypto.sh', 'measure.py', 'script', 'suite.sh', 'targets.py'}

@@ -73,10 +73,10 @@ class Search:
     def __init__(self, machine, variant, folder):
         self.machine, self.folder, self.path = machine, pathlib.Path(folder), pathlib.Path(folder) / 'search'
         self.emulator = machine.emulator or 'qemu-x86_64'
-        tools = ROOT / 'build/toolchain' / f'{machine.name}-{variant}'
-        need('make lib makes it', tools / 'words')
-        clang, *words = (tools / 'words').read_text().splitlines()
-        module = said(clang, '-S', '-emit-llvm', '-Xclang', '-disable-llvm-passes', '-Wno-override-module', '-x', 'ir', tools / 'module.bc', '-o', '-')
+        compiled = ROOT / 'build/compiled' / f'{machine.name}-{variant}'
+        need('make lib makes it', compiled / 'words')
+        clang, *words = (compiled / 'words').read_text().splitlines()
+        module = said(clang, '-S', '-emit-llvm', '-Xclang', '-disable-llvm-passes', '-Wno-override-module', '-x', 'ir', compiled / 'module.bc', '-o', '-')
         (self.folder / 'module.bc').write_text(module + (ROOT / 'host/measure/search.ll').read_text())
         subprocess.run(['sh', ROOT / 'host/clang.sh', clang, machine.name, variant, *words], cwd=folder, check=True)
         if machine.bare:

@@ -49,4 +49,11 @@ for package in "$work"/cache/archives/*.deb; do
     dpkg-deb -x "$package" "$folder" 2>>"$work/log" || fail "cannot be unpacked"
 done
 rm -rf "$work"
+# rt takes no checkout with a link in it: what a link leads to stands in its place
+find "$folder" -type l | while read -r link; do
+    to=$(readlink "$link")
+    case $to in /*) to=$folder$to ;; *) to=${link%/*}/$to ;; esac
+    rm "$link"
+    [ ! -e "$to" ] || cp -rL "$to" "$link"
+done
 echo "$*" >"$folder/packages"

@@ -1,20 +1,13 @@
 ; `make measure` sets this behind the proved module, and compiles all of it as an archive is compiled: the search of the secret step and a loop over
-; single bytes, each to be called by itself. A slice goes into a function of the module by the place of its pointer and length.
+; single bytes, each to be called by itself. A slice goes into a function of the module as its pointer and its length.
 
 define i64 @search(ptr %x, i64 %len) #0 {
-  %slice = alloca [16 x i8], align 8
-  store ptr %x, ptr %slice, align 8
-  %behind = getelementptr i8, ptr %slice, i64 8
-  store i64 %len, ptr %behind, align 8
-  %at = call i64 @"secret::leading_zeros"(ptr %slice)
+  %at = call i64 @"secret::leading_zeros"(ptr %x, i64 %len)
   ret i64 %at
 }
 
-define internal i64 @"bytes::leading_zeros"(ptr %slice) #0 {
+define internal i64 @"bytes::leading_zeros"(ptr %x, i64 %len) #0 {
 start:
-  %x = load ptr, ptr %slice, align 8
-  %behind = getelementptr i8, ptr %slice, i64 8
-  %len = load i64, ptr %behind, align 8
   br label %loop
 
 loop:
@@ -37,16 +30,12 @@ end:
 }
 
 define i64 @by_bytes(ptr %x, i64 %len) #0 {
-  %slice = alloca [16 x i8], align 8
-  store ptr %x, ptr %slice, align 8
-  %behind = getelementptr i8, ptr %slice, i64 8
-  store i64 %len, ptr %behind, align 8
-  %at = call i64 @"bytes::leading_zeros"(ptr %slice)
+  %at = call i64 @"bytes::leading_zeros"(ptr %x, i64 %len)
   ret i64 %at
 }
 
 ; The search has several callers, and so has the loop: what has one becomes a part of it, for size too.
-define i64 @by_bytes_again(ptr %slice) #0 {
-  %at = call i64 @"bytes::leading_zeros"(ptr %slice)
+define i64 @by_bytes_again(ptr %x, i64 %len) #0 {
+  %at = call i64 @"bytes::leading_zeros"(ptr %x, i64 %len)
   ret i64 %at
 }

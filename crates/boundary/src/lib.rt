@@ -1,6 +1,6 @@
-// The C boundary: every entry of the core, exported. Only what every C calling convention agrees on crosses: slices as a pointer and a
-// 64-bit length, pointers to 64-bit numbers and to H's 64 bytes, and 64-bit numbers. A call returns its number; what else it tells goes through
-// lent numbers.
+// The C boundary: every entry of the core, as `boundary_c` exports it. Only what every C calling convention agrees on crosses: slices as a
+// pointer and a 64-bit length, pointers to 64-bit numbers and to H's 64 bytes, and 64-bit numbers. A call returns its number; what else it
+// tells goes through lent numbers.
 #![tactic(auto)]
 
 ghost use Rattle.std.specs.Prelude.{◌≡◌, [], ◌∷◌, ◌++◌, cond, length};
@@ -32,8 +32,7 @@ use names::Cursor;
 // ---- the codecs
 
 // The string at the front of s. Told: the places of its body and of the rest.
-#[unsafe(no_mangle)]
-pub extern "C" fn castulfrisa_read_string(s: &[u8], places: &mut [u64; 4]) -> u64
+pub fn castulfrisa_read_string(s: &[u8], places: &mut [u64; 4]) -> u64
     ensures { let r = read_string s.now in
         (result ≡ r.number) × (places.new ≡ place_of r.body ++ place_of r.rest) }
 {
@@ -48,8 +47,7 @@ pub extern "C" fn castulfrisa_read_string(s: &[u8], places: &mut [u64; 4]) -> u6
 }
 
 // Writes body as a string. Told: its count.
-#[unsafe(no_mangle)]
-pub extern "C" fn castulfrisa_write_string(out: &mut [u8], body: &[u8], count: &mut u64) -> u64
+pub fn castulfrisa_write_string(out: &mut [u8], body: &[u8], count: &mut u64) -> u64
     ensures { let b = body.now in
         let cause = string_cause (length out.old) b in
         (result ≡ cause) × (count.new ≡ (wrote cause (string b)).count) × (out.new ≡ leaves cause (string b) out.old) }
@@ -60,8 +58,7 @@ pub extern "C" fn castulfrisa_write_string(out: &mut [u8], body: &[u8], count: &
 }
 
 // The mpint at the front of s. Told: its sign, and the places of its body and of the rest.
-#[unsafe(no_mangle)]
-pub extern "C" fn castulfrisa_read_mpint(s: &[u8], sign: &mut i64, places: &mut [u64; 4]) -> u64
+pub fn castulfrisa_read_mpint(s: &[u8], sign: &mut i64, places: &mut [u64; 4]) -> u64
     ensures { let r = read_mpint s.now in
         (result ≡ r.number) × (sign.new ≡ r.sign) × (places.new ≡ place_of r.body ++ place_of r.rest) }
 {
@@ -77,8 +74,7 @@ pub extern "C" fn castulfrisa_read_mpint(s: &[u8], sign: &mut i64, places: &mut 
 }
 
 // Writes the number of two's complement bytes as an mpint. Told: its count.
-#[unsafe(no_mangle)]
-pub extern "C" fn castulfrisa_write_mpint(out: &mut [u8], bytes: &[u8], count: &mut u64) -> u64
+pub fn castulfrisa_write_mpint(out: &mut [u8], bytes: &[u8], count: &mut u64) -> u64
     ensures { let b = bytes.now in
         let cause = string_cause (length out.old) (shortest b) in
         (result ≡ cause) × (count.new ≡ (wrote cause (mpint b)).count) × (out.new ≡ leaves cause (mpint b) out.old) }
@@ -91,16 +87,14 @@ pub extern "C" fn castulfrisa_write_mpint(out: &mut [u8], bytes: &[u8], count: &
 // ---- the methods
 
 // The number of the method of this name, 0 with none.
-#[unsafe(no_mangle)]
-pub extern "C" fn castulfrisa_method_number(name: &[u8]) -> u64
+pub fn castulfrisa_method_number(name: &[u8]) -> u64
     ensures { result ≡ number_of name.now }
 {
     method_names::number_of(name) as u64
 }
 
 // The name of a method. Told: its count.
-#[unsafe(no_mangle)]
-pub extern "C" fn castulfrisa_method_name(method: u64, out: &mut [u8], count: &mut u64) -> u64
+pub fn castulfrisa_method_name(method: u64, out: &mut [u8], count: &mut u64) -> u64
     ensures { let name = name_of (row_of method) in
         let cause = name_cause (length out.old) method in
         (result ≡ cause) × (count.new ≡ (wrote cause name).count) × (out.new ≡ leaves cause name out.old) }
@@ -109,8 +103,7 @@ pub extern "C" fn castulfrisa_method_name(method: u64, out: &mut [u8], count: &m
 }
 
 // The sizes and rules of a method.
-#[unsafe(no_mangle)]
-pub extern "C" fn castulfrisa_method_sizes(method: u64, sizes: &mut [u64; 8]) -> u64
+pub fn castulfrisa_method_sizes(method: u64, sizes: &mut [u64; 8]) -> u64
     ensures { (result ≡ method_cause method) × (sizes.new ≡ sizes_of method) }
 {
     lookups::method_sizes(method, sizes)
@@ -119,8 +112,7 @@ pub extern "C" fn castulfrisa_method_sizes(method: u64, sizes: &mut [u64; 8]) ->
 // ---- KEXINIT
 
 // Opens a payload for one of its ten lists. Told: the cookie's place, the boolean, the reserved number, a cursor, and with 12 and 13 the position.
-#[unsafe(no_mangle)]
-pub extern "C" fn castulfrisa_open_list(payload: &[u8], list: u64, opened: &mut [u64; 7]) -> u64
+pub fn castulfrisa_open_list(payload: &[u8], list: u64, opened: &mut [u64; 7]) -> u64
     ensures { let r = open_list payload.now list in
         (result ≡ r.head.number) × (opened.new ≡ opened_numbers r) }
 {
@@ -140,12 +132,7 @@ pub extern "C" fn castulfrisa_open_list(payload: &[u8], list: u64, opened: &mut 
 }
 
 // The next name of an opened list; the cursor moves behind it. Told: its place, with no bytes at the list's end.
-#[unsafe(no_mangle)]
-pub extern "C" fn castulfrisa_next_name(
-    payload: &[u8],
-    cursor: &mut [u64; 2],
-    name: &mut [u64; 2],
-) -> u64
+pub fn castulfrisa_next_name(payload: &[u8], cursor: &mut [u64; 2], name: &mut [u64; 2]) -> u64
     ensures { let r = next_name payload.now (cursor_of cursor.old) in
         (result ≡ r.number) × (cursor.new ≡ cursor_numbers r.cursor) × (name.new ≡ place_of r.name) }
 {
@@ -161,8 +148,7 @@ pub extern "C" fn castulfrisa_next_name(
 }
 
 // Writes a KEXINIT from ten lists, told by their ends. Told: its count, and which list is bad.
-#[unsafe(no_mangle)]
-pub extern "C" fn castulfrisa_write_kexinit(
+pub fn castulfrisa_write_kexinit(
     out: &mut [u8],
     cookie: &[u8],
     lists: &[u8],
@@ -180,8 +166,7 @@ pub extern "C" fn castulfrisa_write_kexinit(
 
 // The choice from a client's and a server's KEXINIT. Told: the method, the host key name's place in the client's payload, and whether
 // each side's next packet is to be ignored.
-#[unsafe(no_mangle)]
-pub extern "C" fn castulfrisa_choose(client: &[u8], server: &[u8], choice: &mut [u64; 5]) -> u64
+pub fn castulfrisa_choose(client: &[u8], server: &[u8], choice: &mut [u64; 5]) -> u64
     ensures { let r = chosen any client.now server.now in
         (result ≡ r.number) × (choice.new ≡ choice_numbers r) }
 {
@@ -199,8 +184,7 @@ pub extern "C" fn castulfrisa_choose(client: &[u8], server: &[u8], choice: &mut 
 // ---- the exchange, in bytes that the host lends
 
 // Starts an exchange.
-#[unsafe(no_mangle)]
-pub extern "C" fn castulfrisa_start(
+pub fn castulfrisa_start(
     ex: &mut [u8],
     role: u64,
     method: u64,
@@ -218,14 +202,7 @@ pub extern "C" fn castulfrisa_start(
 }
 
 // Begins a complete exchange again, with the V's that stand in the room. A method's number is judged as it came.
-#[unsafe(no_mangle)]
-pub extern "C" fn castulfrisa_again(
-    ex: &mut [u8],
-    room: &mut [u8],
-    method: u64,
-    ic: &[u8],
-    is: &[u8],
-) -> u64
+pub fn castulfrisa_again(ex: &mut [u8], room: &mut [u8], method: u64, ic: &[u8], is: &[u8]) -> u64
     ensures { left result [] ex.new room.new [] ≡ lent_again ex.old room.old method ic.now is.now }
 {
     let m = arguments::byte_of(method);
@@ -233,8 +210,7 @@ pub extern "C" fn castulfrisa_again(
 }
 
 // Client, own C. Told: INIT's count.
-#[unsafe(no_mangle)]
-pub extern "C" fn castulfrisa_own_c(
+pub fn castulfrisa_own_c(
     ex: &mut [u8],
     room: &mut [u8],
     c: &[u8],
@@ -248,8 +224,7 @@ pub extern "C" fn castulfrisa_own_c(
 }
 
 // Server, INIT read. Told: C's place, and with 12 and 13 the position.
-#[unsafe(no_mangle)]
-pub extern "C" fn castulfrisa_read_init(
+pub fn castulfrisa_read_init(
     ex: &mut [u8],
     room: &mut [u8],
     payload: &[u8],
@@ -261,8 +236,7 @@ pub extern "C" fn castulfrisa_read_init(
 }
 
 // Client, REPLY read. Told: the places of K_S, S and the signature, and with 12 and 13 the position.
-#[unsafe(no_mangle)]
-pub extern "C" fn castulfrisa_read_reply(
+pub fn castulfrisa_read_reply(
     ex: &mut [u8],
     room: &mut [u8],
     payload: &[u8],
@@ -274,8 +248,7 @@ pub extern "C" fn castulfrisa_read_reply(
 }
 
 // Both roles, the secret. Told: the hash input's count, and H as 64 bytes; zeros on a refusal.
-#[unsafe(no_mangle)]
-pub extern "C" fn castulfrisa_take_secret(
+pub fn castulfrisa_take_secret(
     ex: &mut [u8],
     room: &mut [u8],
     given: u64,
@@ -297,8 +270,7 @@ pub extern "C" fn castulfrisa_take_secret(
 }
 
 // Server, the signature. Told: REPLY's count and K's.
-#[unsafe(no_mangle)]
-pub extern "C" fn castulfrisa_sign(
+pub fn castulfrisa_sign(
     ex: &mut [u8],
     room: &[u8],
     signature: &[u8],
@@ -313,8 +285,7 @@ pub extern "C" fn castulfrisa_sign(
 }
 
 // Client, the verdict. Told: K's count.
-#[unsafe(no_mangle)]
-pub extern "C" fn castulfrisa_verdict(
+pub fn castulfrisa_verdict(
     ex: &mut [u8],
     room: &mut [u8],
     signature: u64,
@@ -333,13 +304,7 @@ pub extern "C" fn castulfrisa_verdict(
 // ---- calls on an exchange that are no steps: they tell, or derive a key, and change neither exchange nor room
 
 // The number that INIT's step would answer, and C's place.
-#[unsafe(no_mangle)]
-pub extern "C" fn castulfrisa_init_c(
-    ex: &[u8],
-    room: &[u8],
-    payload: &[u8],
-    place: &mut [u64; 2],
-) -> u64
+pub fn castulfrisa_init_c(ex: &[u8], room: &[u8], payload: &[u8], place: &mut [u64; 2]) -> u64
     ensures { let b = ex.now in
         let q = init payload.now in
         (result ≡ by_fit b (number (decoded b) room.now q) 1) × (place.new ≡ by_fit b (place_of (step_part (decoded b) room.now q payload.now 0)) (zeros 2)) }
@@ -348,8 +313,7 @@ pub extern "C" fn castulfrisa_init_c(
 }
 
 // The number that REPLY's step would answer, and the place of K_S.
-#[unsafe(no_mangle)]
-pub extern "C" fn castulfrisa_reply_host_key(
+pub fn castulfrisa_reply_host_key(
     ex: &[u8],
     room: &[u8],
     payload: &[u8],
@@ -363,13 +327,7 @@ pub extern "C" fn castulfrisa_reply_host_key(
 }
 
 // Likewise, and the place of S.
-#[unsafe(no_mangle)]
-pub extern "C" fn castulfrisa_reply_s(
-    ex: &[u8],
-    room: &[u8],
-    payload: &[u8],
-    place: &mut [u64; 2],
-) -> u64
+pub fn castulfrisa_reply_s(ex: &[u8], room: &[u8], payload: &[u8], place: &mut [u64; 2]) -> u64
     ensures { let b = ex.now in
         let q = reply payload.now in
         (result ≡ by_fit b (number (decoded b) room.now q) 1) × (place.new ≡ by_fit b (place_of (step_part (decoded b) room.now q payload.now 1)) (zeros 2)) }
@@ -378,8 +336,7 @@ pub extern "C" fn castulfrisa_reply_s(
 }
 
 // Likewise, and the place of the signature.
-#[unsafe(no_mangle)]
-pub extern "C" fn castulfrisa_reply_signature(
+pub fn castulfrisa_reply_signature(
     ex: &[u8],
     room: &[u8],
     payload: &[u8],
@@ -393,12 +350,7 @@ pub extern "C" fn castulfrisa_reply_signature(
 }
 
 // The session of an exchange at any stage. Told: the identifier's length, how many exchanges were completed, and the identifier's 64 bytes.
-#[unsafe(no_mangle)]
-pub extern "C" fn castulfrisa_session_id(
-    ex: &[u8],
-    told: &mut [u64; 2],
-    id: &mut [u8; limits::H_SIZE],
-) -> u64
+pub fn castulfrisa_session_id(ex: &[u8], told: &mut [u64; 2], id: &mut [u8; limits::H_SIZE]) -> u64
     ensures { let b = ex.now in
         let s = (decoded b).session in
         (result ≡ cond (session_known b) 0 1) × (told.new ≡ cond (session_known b) (s.len ∷ s.count ∷ []) (zeros 2)) × (id.new ≡ cond (session_known b) s.id (zeros h_size)) }
@@ -407,8 +359,7 @@ pub extern "C" fn castulfrisa_session_id(
 }
 
 // A key of a complete exchange, at the output's beginning.
-#[unsafe(no_mangle)]
-pub extern "C" fn castulfrisa_derive(ex: &[u8], letter: u64, len: u64, out: &mut [u8]) -> u64
+pub fn castulfrisa_derive(ex: &[u8], letter: u64, len: u64, out: &mut [u8]) -> u64
     ensures { let b = ex.now in
         let o = out.old in
         let cause = by_fit b (derive_cause (decoded b) letter len (length o)) 1 in
@@ -418,8 +369,7 @@ pub extern "C" fn castulfrisa_derive(ex: &[u8], letter: u64, len: u64, out: &mut
 }
 
 // How far an exchange has come. Told: its stage, the number that ended it, its role and its method.
-#[unsafe(no_mangle)]
-pub extern "C" fn castulfrisa_state(ex: &[u8], told: &mut [u64; 4]) -> u64
+pub fn castulfrisa_state(ex: &[u8], told: &mut [u64; 4]) -> u64
     ensures { let b = ex.now in
         let e = decoded b in
         (result ≡ by_fit b 0 1) × (told.new ≡ by_fit b (stage_number e.stage ∷ fail_number e.stage ∷ e.role ∷ e.method ∷ []) (zeros 4)) }
@@ -430,24 +380,21 @@ pub extern "C" fn castulfrisa_state(ex: &[u8], told: &mut [u64; 4]) -> u64
 // ---- hashes, in bytes that the host lends
 
 // Starts a hash of a kind: the bytes of its digest.
-#[unsafe(no_mangle)]
-pub extern "C" fn castulfrisa_hash_start(hash: &mut [u8], kind: u64) -> u64
+pub fn castulfrisa_hash_start(hash: &mut [u8], kind: u64) -> u64
     ensures { hash_left result hash.new ≡ hash_start_left hash.old kind }
 {
     lent_hash::start(hash, kind as usize) as u64
 }
 
 // Feeds it a part of its message.
-#[unsafe(no_mangle)]
-pub extern "C" fn castulfrisa_hash_feed(hash: &mut [u8], part: &[u8]) -> u64
+pub fn castulfrisa_hash_feed(hash: &mut [u8], part: &[u8]) -> u64
     ensures { hash_left result hash.new ≡ hash_feed_left hash.old part.now }
 {
     lent_hash::feed(hash, part) as u64
 }
 
 // Tells its digest, zeros behind it. It may be fed on.
-#[unsafe(no_mangle)]
-pub extern "C" fn castulfrisa_hash_finish(hash: &[u8], digest: &mut [u8; limits::H_SIZE]) -> u64
+pub fn castulfrisa_hash_finish(hash: &[u8], digest: &mut [u8; limits::H_SIZE]) -> u64
     ensures { hash_left result digest.new ≡ hash_finish_left hash.now }
 {
     lent_hash::finish(hash, digest) as u64
@@ -456,16 +403,14 @@ pub extern "C" fn castulfrisa_hash_finish(hash: &[u8], digest: &mut [u8; limits:
 // ---- the host's own
 
 // Fills a buffer with zeros.
-#[unsafe(no_mangle)]
-pub extern "C" fn castulfrisa_wipe(b: &mut [u8])
+pub fn castulfrisa_wipe(b: &mut [u8])
     ensures { b.new ≡ zeros (length b.old) }
 {
     transcript::wipe(b)
 }
 
 // The library's version, which the header repeats.
-#[unsafe(no_mangle)]
-pub extern "C" fn castulfrisa_version() -> u64
+pub fn castulfrisa_version() -> u64
     ensures { result ≡ library_version }
 {
     limits::LIBRARY_VERSION
