@@ -7,10 +7,9 @@ use lib.ListN.{length, get_or, take, drop}
 use Rattle.limits.specs.Limits.{h_size, room_least}
 use Rattle.limits.proofs.BoolLaws.{both}
 use Rattle.buffers.specs.Bytes.{zeros, onto}
-use Rattle.exchange.specs.Causes.{h_of}
 use Rattle.exchange.specs.Steps.{Call, secret, sign, verdict, number, count_of, second_of, answered, reply_of, output_after, started, started_room}
 use Rattle.exchange.specs.Again.{Turn}
-use Rattle.exchange.specs.Book.{Book, opened, noted, last_book, hash_input}
+use Rattle.exchange.specs.Book.{Book, opened, last_book}
 use Rattle.exchange.specs.Demand.{last_exchange}
 use Rattle.exchange.specs.declared.Step.{Step}
 use Rattle.exchange.specs.declared.Exchange.{Exchange}
