@@ -69,8 +69,9 @@ search-preserved c =
     let q : number_of f.name ≡ c.number_of-method.result = sym (c.number_of-method.ensures ∙ ap number_of e) in
     let d : method_in any (f.name ∷ names_from k c.next_name-n.result.cursor) u ≡ method_in any (names_from k c.next_name-n.result.cursor) u =
     elim c.if-method-ne0.branch [
-      then-method-ne0+then-not-m w ↦ method_absent u f.name _ (ap (λ (m : List ℕ). has m u) (sym e) ∙ sym w.loop-name.invariant ∙ has_none n v w.loop-name.to _ w.next_name-m.ensures (not-true _ w.if-not-m.true))
-    | else-method-ne0 w ↦ method_other u f.name _ (q ∙ w.if-method-ne0.false) ] in
+      | then-method-ne0+then-not-m w ↦ method_absent u f.name _ (ap (λ (m : List ℕ). has m u) (sym e) ∙ sym w.loop-name.invariant ∙ has_none n v w.loop-name.to _ w.next_name-m.ensures (not-true _ w.if-not-m.true))
+      | else-method-ne0 w ↦ method_other u f.name _ (q ∙ w.if-method-ne0.false)
+    ] in
     sym (ap (λ (l : List (List ℕ)). method_in any l u) (name_first k c.search.at _ f) ∙ d) ∙ c.search.invariant
 
 pub returns-then-not-n : goal.returns-then-not-n

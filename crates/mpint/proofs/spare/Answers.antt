@@ -33,8 +33,7 @@ loop-i-preserved c = let t = turn c in (omega arith, sym t.1 ∙ c.loop-i.invari
 
 pub returns : goal.returns
 returns c =
-    let l = c.args.bytes.now in
-    (
+    let l = c.args.bytes.now in (
       c.loop-i.invariant.0,
       sym (shortest_done (drop c.loop-i.i l) (ap excess (sym (tail_part l c.loop-i.i)) ∙ sym c.has_excess.ensures ∙ c.loop-i-test.false)) ∙ c.loop-i.invariant.1,
     )
