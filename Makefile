@@ -26,7 +26,7 @@ demo: ## prove and build the library, and let a host on OpenSSL meet a real sshd
 	@python3 tests/live/demo.py --dock build/dock --bench build/bench --steps build/demo.txt $(if $(VERBOSE),--verbose)
 
 # The gate. Its last line is that of rt ci, printed where all else passed too.
-test: ## the gate: every proof from nothing, every edit that must be refused, then the compiled library (half an hour and more from nothing)
+test: ## the gate: every proof, every edit that must be refused, then the compiled library (from nothing an hour; what a run passed is kept)
 	@sh tests/gate.sh
 
 # What the gate asks of what was proved. Packages behind the other machines' archives: it packs those that it finds whole.

@@ -154,7 +154,7 @@ layer_by_layer() { # COMMAND
 
 # The library rests on no C function's contract, which nothing proves.
 refuse_axioms() {
-    if sed -n '/^== .* from nothing$/,$p' $log | grep '^axioms' | grep -v ': none reached of '; then
+    if sed -n '/^== .* from nothing$/,$p' $log | grep -e '^axioms ' -e '^logic=proved .*axioms=' | grep -v '^axioms [^:]*: none reached of '; then
         echo "lib: not proved, it reaches C functions, whose contracts nothing proves"
         exit 1
     fi

@@ -29,7 +29,7 @@ SOURCE = re.compile(r"(RFC \d+|FIPS [\d-]+|SEC 1|draft|sections?)[^|;()]*")
 # a name by itself, or at the end of a path; what begins or ends with _ is a part of some
 CITED = re.compile(r"`((?:\w+(?:::|\.))*[^\W_]\w*(?<!_))`")
 NAMING = "docs/PROMISES.md", "docs/CHANGING.md", "docs/DECISIONS.md", "README.md"
-SOURCES = re.compile(r"(crates/\w+/(src|specs|proofs)/|include/|host/|tests/|packaging/|crates\.txt$|Makefile$)")
+SOURCES = re.compile(r"(crates/\w+/(src|specs|proofs|must-fail)/|include/|host/|tests/|packaging/|crates\.txt$|Makefile$)")
 # papers by a number, and points of them
 ELSEWHERE = re.compile(r"\b[Dd]ocuments? \d|\b[Rr]equest #\d|\bG1\d\d[a-k]\b")
 

@@ -368,9 +368,9 @@ def in_rust(scratch):
     (scratch / 'other').mkdir()
     (scratch / 'other/version.c').write_text(f'unsigned long long castulfrisa_version(void) {{ return {int(N) + 1}; }}\n')
     run('ar', 'x', f'{lib}/libcastulfrisa.a', cwd=scratch / 'other')
-    run('objcopy', '--redefine-sym', 'castulfrisa_version=its_own', 'boundary.o', cwd=scratch / 'other')
+    run('objcopy', '--redefine-sym', 'castulfrisa_version=its_own', 'boundary_c.o', cwd=scratch / 'other')
     run('gcc', '-c', 'version.c', cwd=scratch / 'other')
-    run('ar', 'rcs', 'libcastulfrisa.a', 'boundary.o', 'version.o', cwd=scratch / 'other')
+    run('ar', 'rcs', 'libcastulfrisa.a', 'boundary_c.o', 'version.o', cwd=scratch / 'other')
     user = scratch / 'user'
     (user / 'src').mkdir(parents=True)
     (user / 'Cargo.toml').write_text(f'''[package]
