@@ -42,7 +42,7 @@ pub loop-i-preserved : goal.loop-i-preserved
 loop-i-preserved c =
     let s = c.args.s.now in
     let i = c.loop-i.i in
-    let g = byte_good (get_or s i 0) c.if-s-i-lt33.false c.if-s-i-gt126.false c.if-s-i-eq44.false in
+    let g = byte_good (get_or s i 0) (omega arith) (omega arith) c.if-s-i-eq44.false in
     (omega arith, sym (every_at name_byte s i (omega arith) ∙ ap (λ (t : Bool). t && every name_byte (drop (i + 1) s)) g) ∙ c.loop-i.invariant.1)
 
 pub returns : goal.returns
