@@ -25,7 +25,7 @@ pub returns-then-s-gt-NAME_MOST : goal.returns-then-s-gt-NAME_MOST
 returns-then-s-gt-NAME_MOST c = good_long c.args.s.now c.if-s-gt-NAME_MOST.true
 
 pub loop-i-init : goal.loop-i-init
-loop-i-init c = (omega arith, good_bytes c.args.s.now c.if-s-lt1.false c.if-s-gt-NAME_MOST.false)
+loop-i-init c = (omega arith, good_bytes c.args.s.now (omega arith) (omega arith))
 
 pub returns-then-s-i-lt33 : goal.returns-then-s-i-lt33
 returns-then-s-i-lt33 c = bad (goal.at.returns-then-s-i-lt33 c).At-loop-i c.loop-i-test.true (byte_low _ c.if-s-i-lt33.true)
