@@ -1,4 +1,5 @@
 -- `due::step_number` meets its contract. Assumes nothing.
+use native.Mathlib.Omega.{arith}
 use mathlib.Core.Path.{◌∙◌}
 use mathlib.Core.Path.{sym}
 use Prim.Native.Nat.{ℕ}
@@ -18,11 +19,11 @@ returns-then-room-lt-ROOM_LEAST c =
     let b = c.args.b.now in
     let a = c.args in
     let d = due_fits b a.n (sym c.is_due.ensures.0 ∙ c.if-not-is_due.false) in
-    (number_on b d.0 a.n a.room a.fed 3 (number_room a.n (decoded b) a.room a.fed d.1 c.if-room-lt-ROOM_LEAST.true), (λ _. c.is_due.ensures.1 (sym refl ∙ c.if-not-is_due.false)))
+    (number_on b d.0 a.n a.room a.fed 3 (number_room a.n (decoded b) a.room a.fed d.1 (omega arith)), (λ _. c.is_due.ensures.1 (sym refl ∙ c.if-not-is_due.false)))
 
 pub returns : goal.returns
 returns c =
     let b = c.args.b.now in
     let a = c.args in
     let d = due_fits b a.n (sym c.is_due.ensures.0 ∙ c.if-not-is_due.false) in
-    (number_on b d.0 a.n a.room a.fed _ (number_fed a.n (decoded b) a.room a.fed d.1 c.if-room-lt-ROOM_LEAST.false), (λ _. c.is_due.ensures.1 (sym refl ∙ c.if-not-is_due.false)))
+    (number_on b d.0 a.n a.room a.fed _ (number_fed a.n (decoded b) a.room a.fed d.1 (omega arith)), (λ _. c.is_due.ensures.1 (sym refl ∙ c.if-not-is_due.false)))

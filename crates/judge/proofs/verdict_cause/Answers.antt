@@ -1,23 +1,24 @@
 -- `judge::verdict_cause` meets its contract. Assumes nothing.
+use native.Mathlib.Omega.{arith}
 use Rattle.judge.proofs.JudgeLaws.{verdict_short, verdict_bad, verdict_good}
 use Rattle.judge.proofs.verdict_cause.Goals as goal
 
 pub returns-then-k_out-lt-K_SIZE : goal.returns-then-k_out-lt-K_SIZE
 returns-then-k_out-lt-K_SIZE c =
     let a = c.args in
-    verdict_short a.signature a.host_key a.k_out c.if-k_out-lt-K_SIZE.true
+    verdict_short a.signature a.host_key a.k_out (omega arith)
 
 pub returns-then-not-signature : goal.returns-then-not-signature
 returns-then-not-signature c =
     let a = c.args in
-    verdict_bad a.signature a.host_key a.k_out c.if-k_out-lt-K_SIZE.false (rw c.if-not-signature.true)
+    verdict_bad a.signature a.host_key a.k_out (omega arith) (rw c.if-not-signature.true)
 
 pub returns-then-not-host_key : goal.returns-then-not-host_key
 returns-then-not-host_key c =
     let a = c.args in
-    verdict_bad a.signature a.host_key a.k_out c.if-k_out-lt-K_SIZE.false (rw (c.if-not-signature.false, c.if-not-host_key.true))
+    verdict_bad a.signature a.host_key a.k_out (omega arith) (rw (c.if-not-signature.false, c.if-not-host_key.true))
 
 pub returns : goal.returns
 returns c =
     let a = c.args in
-    verdict_good a.signature a.host_key a.k_out c.if-k_out-lt-K_SIZE.false (rw (c.if-not-signature.false, c.if-not-host_key.false))
+    verdict_good a.signature a.host_key a.k_out (omega arith) (rw (c.if-not-signature.false, c.if-not-host_key.false))

@@ -8,13 +8,13 @@ use Rattle.judge_versions.proofs.VersionLaws.{version_empty, version_long, versi
 use Rattle.judge_versions.proofs.version_ok.Goals as goal
 
 pub returns-then-v-lt1 : goal.returns-then-v-lt1
-returns-then-v-lt1 c = version_empty c.args.v.now c.if-v-lt1.true
+returns-then-v-lt1 c = version_empty c.args.v.now (omega arith)
 
 pub returns-then-v-gt-VERSION_MOST : goal.returns-then-v-gt-VERSION_MOST
-returns-then-v-gt-VERSION_MOST c = version_long c.args.v.now c.if-v-gt-VERSION_MOST.true
+returns-then-v-gt-VERSION_MOST c = version_long c.args.v.now (omega arith)
 
 pub loop-i-init : goal.loop-i-init
-loop-i-init c = (omega arith, version_plain c.args.v.now c.if-v-lt1.false c.if-v-gt-VERSION_MOST.false)
+loop-i-init c = (omega arith, version_plain c.args.v.now (omega arith) (omega arith))
 
 pub returns-then-not-plain_sixteen : goal.returns-then-not-plain_sixteen
 returns-then-not-plain_sixteen c =
