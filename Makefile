@@ -1,5 +1,5 @@
 # `make` alone lists the targets: what stands behind ## on a rule's line, here and in files that are included.
-.PHONY: help demo test checks vectors kit needs cross lib bench dock c-host rust-host host host-test c-test rust-test script bench-test help-test differ-test \
+.PHONY: help demo test each checks vectors kit needs cross lib bench dock c-host rust-host host host-test c-test rust-test script bench-test help-test differ-test \
 	live-test same hybrids targets soak measure
 
 help:
@@ -42,6 +42,10 @@ vectors: ## what programs print, what is exported, the pictures, and the specifi
 	python3 tests/exports.py --check
 	python3 docs/draw.py --check
 	python3 tests/cited.py
+
+# Beside the gate, behind an `rt ci` whose words are in build/ci.log.
+each: kit ## each wrong program of an edit by itself, by a trial more of the edit (a quarter of an hour)
+	python3 tests/refused.py --each
 
 # Whether there is a kit, and which.
 kit:
