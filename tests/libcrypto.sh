@@ -25,6 +25,8 @@ get() {
 # a list that fails is not always the one that is needed
 get update || true
 if (cd "$work" && get download libssl-dev) && dpkg-deb -x "$work"/libssl-dev_*.deb "$work/unpacked"; then
+    # links to the shared libraries, which another package has; rt takes no checkout with a link in it
+    find "$work/unpacked/usr" -type l -exec rm {} +
     mv "$work/unpacked/usr" "$folder/usr"
     rm -rf "$work"
 else
