@@ -139,17 +139,20 @@ class Layers:
             found += [it for it in self.lines[name][1] if it in self.lines and it not in found]
         return found
 
+    def of(self, crate):
+        """A sum of the crate alone, by what it was when this was asked first."""
+        if crate not in self.sums:
+            sum = hashlib.sha256(self.lines[crate][0].encode())
+            for part in PARTS:
+                for file in sorted(glob.glob(f"{self.top}/crates/{crate}/{part}/**", recursive=True)):
+                    if os.path.isfile(file):
+                        sum.update(repr((os.path.relpath(file, self.top), read(file))).encode())
+            self.sums[crate] = sum.hexdigest()
+        return self.sums[crate]
+
     def sum(self, crate, path):
-        """Of all that a trial's outcome rests on."""
-        for name in self.with_below(crate):
-            if name not in self.sums:
-                sum = hashlib.sha256(self.lines[name][0].encode())
-                for part in PARTS:
-                    for file in sorted(glob.glob(f"{self.top}/crates/{name}/{part}/**", recursive=True)):
-                        if os.path.isfile(file):
-                            sum.update(repr((os.path.relpath(file, self.top), read(file))).encode())
-                self.sums[name] = sum.hexdigest()
-        return hashlib.sha256(repr((self.rest, [self.sums[it] for it in self.with_below(crate)], read(path))).encode()).hexdigest()
+        """A sum of all that a trial's outcome rests on."""
+        return hashlib.sha256(repr((self.rest, [self.of(it) for it in self.with_below(crate)], read(path))).encode()).hexdigest()
 
 
 def link(one, other):
@@ -189,9 +192,12 @@ class Rooms:
         ran = check(self.rooms[0], "all", "check", "--jobs", str(len(self.rooms)))
         if ran.returncode:
             raise subprocess.SubprocessError(f"the crates are not proved as they stand: {ran.stdout[-900:]}")
-        self.layers = Layers(self.rooms[0])
         for room in self.rooms[1:]:
             self.lay(self.rooms[0], room)
+        # ahead of the trials, which change what lies in the rooms
+        self.layers = Layers(self.rooms[0])
+        for crate in self.crates:
+            self.layers.of(crate)
         for room in self.rooms:
             self.free.put(room)
 
