@@ -16,6 +16,7 @@ pub fn is_yes(n: u64) -> bool
 }
 
 // A role or a method as a byte; 0, which is neither, for a number that is no byte.
+#[tactic(auto, using(crate::proofs::ArgumentLaws::byte_none, crate::proofs::ArgumentLaws::byte_fits))]
 pub fn byte_of(n: u64) -> u8
     ensures { result ≡ byte_of n }
 {
@@ -26,6 +27,7 @@ pub fn byte_of(n: u64) -> u8
 }
 
 // The classical outcome: given so many bytes, or failed.
+#[tactic(auto, using(crate::proofs::ArgumentLaws::classical_given, crate::proofs::ArgumentLaws::classical_failed))]
 pub fn classical_of(given: u64, count: u64) -> Classical
     ensures { result ≡ classical_of given count }
 {

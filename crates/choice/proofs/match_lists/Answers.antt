@@ -45,7 +45,8 @@ pub returns-then-host_key-eq0 : goal.returns-then-host_key-eq0
 returns-then-host_key-eq0 c =
     let a = c.args.client.now in
     let s = c.args.server.now in
-    c.refused-then-host_key-eq0.ensures ∙ chosen_refused any a s 21 (choice_host_key any a s c.requires.0 c.requires.1 (λ q. c.if-method-eq0.false (found-method (goal.at.returns-then-host_key-eq0 c).After-common_method-method ∙ q)) (sym (ap (λ (r : Part). r.len) (found_name (goal.at.returns-then-host_key-eq0 c).After-common_name-host_key)) ∙ c.if-host_key-eq0.true)) (λ q. omega arith)
+    let m = found-method (goal.at.returns-then-host_key-eq0 c).After-common_method-method in
+    c.refused-then-host_key-eq0.ensures ∙ chosen_refused any a s 21 (choice_host_key any a s c.requires.0 c.requires.1 (λ q. omega arith) (sym (ap (λ (r : Part). r.len) (found_name (goal.at.returns-then-host_key-eq0 c).After-common_name-host_key)) ∙ c.if-host_key-eq0.true)) (λ q. omega arith)
 
 pub returns-then-same_first-2 : goal.returns-then-same_first-2
 returns-then-same_first-2 c =

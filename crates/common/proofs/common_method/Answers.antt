@@ -1,6 +1,7 @@
 -- `common::common_method` meets its contract. Assumes nothing.
 use borrow.Author.Tests.{not-true, not-false}
 use Prim.Native.Nat.{ℕ}
+use native.Mathlib.Omega.{arith}
 use mathlib.Core.Path.{◌≡◌, refl, sym, ap, ◌∙◌}
 use mathlib.Core.List.{List, ◌∷◌}
 use borrow.Author.Tests.{not-true, not-false}
@@ -95,4 +96,4 @@ returns-then-equal c =
     let x = c.part_of-name.ensures.0 ∙ name_read k c.search.at _ f in
     let q = c.number_of-method.ensures ∙ ap number_of x in
     q ∙ sym (ap (λ (m : List (List ℕ)). method_in any m u) (name_first k c.search.at _ f)
-    ∙ method_here u f.name _ (λ z. c.if-method-ne0.true (q ∙ z)) (ap (λ (m : List ℕ). has m u) (sym x) ∙ sym c.loop-name.invariant ∙ h)) ∙ c.search.invariant
+    ∙ method_here u f.name _ (λ z. omega arith) (ap (λ (m : List ℕ). has m u) (sym x) ∙ sym c.loop-name.invariant ∙ h)) ∙ c.search.invariant
