@@ -26,7 +26,7 @@ verdict=$(tail -n 1 build/ci.log)
 [ -f build/ci.passed ] || { echo "$verdict"; exit 1; }
 # An edit that cannot be applied, compiled or read fails nothing in rt ci.
 if grep '^rt: ok;.*, [0-9]* bad;' build/ci.log >/dev/null; then echo "gate: wrong programs that were not tried, by rt's line above: N bad"; exit 1; fi
-python3 tests/refused.py || { echo "gate: a wrong program was not refused where it is wrong"; exit 1; }
+python3 tests/refused.py --each || { echo "gate: a wrong program was not refused where it is wrong"; exit 1; }
 
 # The library anew, over the crates that rt ci has proved.
 sh host/lib.sh --proved "$proving"

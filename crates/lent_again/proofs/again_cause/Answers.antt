@@ -24,4 +24,4 @@ pub returns-then-count-eq-COUNT_MOST : goal.returns-then-count-eq-COUNT_MOST
 returns-then-count-eq-COUNT_MOST c = again_full c.args.method c.args.ic.now c.args.is.now c.args.room c.args.count (omega arith) (omega arith) (omega arith) (rw (sym c.kexinit_ok.ensures ∙ c.if-not-kexinit_ok.false, sym c.kexinit_ok-2.ensures ∙ c.if-not-kexinit_ok-2.false)) c.if-count-eq-COUNT_MOST.true
 
 pub returns : goal.returns
-returns c = again_good c.args.method c.args.ic.now c.args.is.now c.args.room c.args.count (omega arith) (omega arith) (omega arith) (rw (sym c.kexinit_ok.ensures ∙ c.if-not-kexinit_ok.false, sym c.kexinit_ok-2.ensures ∙ c.if-not-kexinit_ok-2.false)) c.if-count-eq-COUNT_MOST.false
+returns c = again_good c.args.method c.args.ic.now c.args.is.now c.args.room c.args.count (omega arith) (omega arith) (omega arith) (rw (sym c.kexinit_ok.ensures ∙ c.if-not-kexinit_ok.false, sym c.kexinit_ok-2.ensures ∙ c.if-not-kexinit_ok-2.false)) (λ q. omega arith)

@@ -1,5 +1,6 @@
 -- `lent_hash::feed` meets its contract. Assumes nothing.
-use mathlib.Core.Path.{sym, ap, ◌∙◌}
+use mathlib.Core.Path.{◌≡◌, sym, ap, ◌∙◌}
+use native.Mathlib.Omega.{arith}
 use Rattle.lent_hash.specs.LentHash.{hash_left, state_bytes, hash_feed_left}
 use Rattle.lent_hash.proofs.LentHashLaws.{size_taken, size_left}
 use mathlib.Core.Bool.{cond}
@@ -29,7 +30,7 @@ unfolding hash_feed_left
 returns c =
     let a = c.args in
     let b = a.h.now in
-    let z = c.if-s-ne0.false in
+    let z : c.feed-s.result.number ≡ 0 = omega arith in
     let e = c.feed-s.ensures ∙ ap (λ (s : Hash). fed s a.part.now) c.load-before.ensures in
     ap (hash_left 0) c.store.ensures
     ∙ (λ i. hash_left (sym z i) (cond (sym (eq-eqb c.feed-s.result.number 0 z) i) (state_bytes c.feed-s.result.hash) b))

@@ -1,4 +1,5 @@
 -- `lent_steps::join_own` meets its contract. Assumes nothing.
+use native.Mathlib.Omega.{arith}
 use mathlib.Core.Path.{◌∙◌}
 use borrow.Author.Tests.{eq-eqb, ne_eqb}
 use Rattle.limits.specs.Limits.{server}
@@ -12,4 +13,4 @@ returns-then-role-ne-SERVER c =
 pub returns : goal.returns
 returns c =
     let a = c.args in
-    (c.with_s.ensures.0 ∙ rw (eq-eqb a.role server c.if-role-ne-SERVER.false), c.with_s.ensures.1 ∙ rw (eq-eqb a.role server c.if-role-ne-SERVER.false))
+    (c.with_s.ensures.0 ∙ rw (eq-eqb a.role server (omega arith)), c.with_s.ensures.1 ∙ rw (eq-eqb a.role server (omega arith)))

@@ -37,7 +37,7 @@ returns-then-cookie-ne-COOKIE_SIZE c =
     let k = a.cookie.now in
     let s = a.lists.now in
     let e = a.ends.now in
-    cookie_wrong k s e a.follows a.reserved o _ c.first_bad-bad.ensures c.if-bad-ne0.false c.if-ends-lists.false (omega arith) c.if-cookie-ne-COOKIE_SIZE.true
+    cookie_wrong k s e a.follows a.reserved o _ c.first_bad-bad.ensures c.if-bad-ne0.false (omega arith) (omega arith) c.if-cookie-ne-COOKIE_SIZE.true
 
 pub returns-then-lists-gt-NAMES_MOST : goal.returns-then-lists-gt-NAMES_MOST
 returns-then-lists-gt-NAMES_MOST c =
@@ -46,7 +46,7 @@ returns-then-lists-gt-NAMES_MOST c =
     let k = a.cookie.now in
     let s = a.lists.now in
     let e = a.ends.now in
-    names_long k s e a.follows a.reserved o _ c.first_bad-bad.ensures c.if-bad-ne0.false c.if-ends-lists.false (omega arith) c.if-cookie-ne-COOKIE_SIZE.false (omega arith)
+    names_long k s e a.follows a.reserved o _ c.first_bad-bad.ensures c.if-bad-ne0.false (omega arith) (omega arith) c.if-cookie-ne-COOKIE_SIZE.false (omega arith)
 
 pub returns-then-out-total : goal.returns-then-out-total
 returns-then-out-total c =
@@ -55,7 +55,7 @@ returns-then-out-total c =
     let k = a.cookie.now in
     let s = a.lists.now in
     let e = a.ends.now in
-    out_short k s e a.follows a.reserved o _ c.first_bad-bad.ensures c.if-bad-ne0.false c.if-ends-lists.false (omega arith) c.if-cookie-ne-COOKIE_SIZE.false (omega arith) c.if-out-total.true
+    out_short k s e a.follows a.reserved o _ c.first_bad-bad.ensures c.if-bad-ne0.false (omega arith) (omega arith) c.if-cookie-ne-COOKIE_SIZE.false (omega arith) c.if-out-total.true
 
 pub put_lists-requires : goal.put_lists-requires
 put_lists-requires c =
@@ -64,7 +64,7 @@ put_lists-requires c =
     let k = a.cookie.now in
     let s = a.lists.now in
     let e = a.ends.now in
-    lists-fit k s e a.follows a.reserved o _ c.first_bad-bad.ensures c.if-bad-ne0.false c.if-ends-lists.false (omega arith) c.if-cookie-ne-COOKIE_SIZE.false (omega arith) c.if-out-total.false _ c.put_bytes.ensures
+    lists-fit k s e a.follows a.reserved o _ c.first_bad-bad.ensures c.if-bad-ne0.false (omega arith) (omega arith) c.if-cookie-ne-COOKIE_SIZE.false (omega arith) c.if-out-total.false _ c.put_bytes.ensures
 
 pub bounds-out-end : goal.bounds-out-end
 bounds-out-end c =
@@ -73,7 +73,7 @@ bounds-out-end c =
     let k = a.cookie.now in
     let s = a.lists.now in
     let e = a.ends.now in
-    let n = end_fits k s e a.follows a.reserved o _ c.first_bad-bad.ensures c.if-bad-ne0.false c.if-ends-lists.false (omega arith) c.if-cookie-ne-COOKIE_SIZE.false (omega arith) c.if-out-total.false _ c.put_bytes.ensures _ c.put_lists.ensures in
+    let n = end_fits k s e a.follows a.reserved o _ c.first_bad-bad.ensures c.if-bad-ne0.false (omega arith) (omega arith) c.if-cookie-ne-COOKIE_SIZE.false (omega arith) c.if-out-total.false _ c.put_bytes.ensures _ c.put_lists.ensures in
     omega arith
 
 pub shape_of-out : goal.shape_of-out
@@ -83,7 +83,7 @@ shape_of-out c =
     let k = a.cookie.now in
     let s = a.lists.now in
     let e = a.ends.now in
-    written-length k s e a.follows a.reserved o _ c.first_bad-bad.ensures c.if-bad-ne0.false c.if-ends-lists.false (omega arith) c.if-cookie-ne-COOKIE_SIZE.false (omega arith) c.if-out-total.false _ c.put_bytes.ensures _ c.put_lists.ensures _ c.flag.ensures _ c.put_u32.ensures
+    written-length k s e a.follows a.reserved o _ c.first_bad-bad.ensures c.if-bad-ne0.false (omega arith) (omega arith) c.if-cookie-ne-COOKIE_SIZE.false (omega arith) c.if-out-total.false _ c.put_bytes.ensures _ c.put_lists.ensures _ c.flag.ensures _ c.put_u32.ensures
 
 pub returns : goal.returns
 returns c =
@@ -92,4 +92,4 @@ returns c =
     let k = a.cookie.now in
     let s = a.lists.now in
     let e = a.ends.now in
-    table-written k s e a.follows a.reserved o _ c.first_bad-bad.ensures c.if-bad-ne0.false c.if-ends-lists.false (omega arith) c.if-cookie-ne-COOKIE_SIZE.false (omega arith) c.if-out-total.false _ c.put_bytes.ensures _ c.put_lists.ensures _ c.flag.ensures _ c.put_u32.ensures
+    table-written k s e a.follows a.reserved o _ c.first_bad-bad.ensures c.if-bad-ne0.false (omega arith) (omega arith) c.if-cookie-ne-COOKIE_SIZE.false (omega arith) c.if-out-total.false _ c.put_bytes.ensures _ c.put_lists.ensures _ c.flag.ensures _ c.put_u32.ensures
