@@ -43,8 +43,8 @@ vectors: ## what programs print, what is exported, the pictures, and the specifi
 	python3 docs/draw.py --check
 	python3 tests/cited.py
 
-# Beside the gate, behind an `rt ci` whose words are in build/ci.log.
-each: kit ## each wrong program of an edit by itself, by a trial more of the edit (a quarter of an hour)
+# As the gate does, behind an `rt ci` whose words are in build/ci.log.
+each: kit ## each wrong program of an edit by itself, by a trial more of the edit (eight minutes, and again only what something moved)
 	python3 tests/refused.py --each
 
 # Whether there is a kit, and which.

@@ -23,7 +23,7 @@ answers goals by their names. Of each program in it that asks
 - that what fails there is a fact that no longer holds, and not only a proof that names what is no longer there;
 - that the changed contracts and definitions themselves make sense.
 What a trial says stays in build/refused: as long as the crate, those below it, the file and the kit are the same, that is read again. From nothing it
-takes a quarter of an hour on four cores.
+takes eight minutes on four cores.
 """
 import collections
 import concurrent.futures
