@@ -1,16 +1,11 @@
 -- `judge::verdict_cause` meets its contract. Assumes nothing.
 use mathlib.Core.Path.{◌≡◌}
-use mathlib.Core.Bool.{Bool, true, false, ◌&&◌}
+use mathlib.Core.Bool.{true}
 use native.Mathlib.Omega.{arith}
 use borrow.Author.Rules.{rules}
+use Rattle.limits.proofs.BoolLaws.{both}
 use Rattle.judge.proofs.JudgeLaws.{verdict_short, verdict_bad, verdict_good}
 use Rattle.judge.proofs.verdict_cause.Goals as goal
-
-both : (s h : Bool) → s ≡ true → h ≡ true → (s && h) ≡ true
-both s h a b = rw (a, b)
-
-not-both : (s h : Bool) → s ≡ true → h ≡ false → (s && h) ≡ false
-not-both s h a b = rw (a, b)
 
 pub returns-then-k_out-lt-K_SIZE : goal.returns-then-k_out-lt-K_SIZE
 returns-then-k_out-lt-K_SIZE c =
@@ -25,9 +20,12 @@ returns-then-not-signature c =
 pub returns-then-not-host_key : goal.returns-then-not-host_key
 returns-then-not-host_key c =
     let a = c.args in
-    verdict_bad a.signature a.host_key a.k_out (omega arith) (not-both a.signature a.host_key (search rules) c.if-not-host_key.true)
+    let s : a.signature ≡ true = search rules in
+    verdict_bad a.signature a.host_key a.k_out (omega arith) (rw (s, c.if-not-host_key.true))
 
 pub returns : goal.returns
 returns c =
     let a = c.args in
-    verdict_good a.signature a.host_key a.k_out (omega arith) (both a.signature a.host_key (search rules) (search rules))
+    let s : a.signature ≡ true = search rules in
+    let h : a.host_key ≡ true = search rules in
+    verdict_good a.signature a.host_key a.k_out (omega arith) (both s h)

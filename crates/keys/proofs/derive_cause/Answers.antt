@@ -1,19 +1,9 @@
 -- `keys::derive_cause` meets its contract. Assumes nothing.
 use mathlib.Core.Path.{◌∙◌}
 use mathlib.Core.Path.{sym}
-use mathlib.Core.Path.{◌≡◌}
-use mathlib.Core.List.{List}
-use mathlib.Core.Bool.{Bool, true, ◌&&◌}
-use Prim.Native.Nat.{ℕ}
 use borrow.Author.Rules.{rules}
-use Rattle.exchange.specs.Record.{completed}
-use Rattle.stored.specs.Stored.{fits, decoded}
 use Rattle.keys.proofs.DeriveLaws.{incomplete, bad_letter, bad_length, short_output, derives}
 use Rattle.keys.proofs.derive_cause.Goals as goal
-
--- the exchange is complete
-done : (b : List ℕ) (r : Bool) → r ≡ (fits b && completed (decoded b)) → r ≡ true → (fits b && completed (decoded b)) ≡ true
-done b r e h = sym e ∙ h
 
 pub returns-then-not-is_complete : goal.returns-then-not-is_complete
 returns-then-not-is_complete c = let a = c.args in incomplete a.ex.now a.letter a.len a.out (sym c.is_complete.ensures.0 ∙ c.if-not-is_complete.true)
@@ -21,19 +11,19 @@ returns-then-not-is_complete c = let a = c.args in incomplete a.ex.now a.letter 
 pub returns-then-not-in_range : goal.returns-then-not-in_range
 returns-then-not-in_range c =
     let a = c.args in
-    bad_letter a.ex.now a.letter a.len a.out (done a.ex.now _ c.is_complete.ensures.0 (search rules)) (sym c.in_range.ensures ∙ c.if-not-in_range.true)
+    bad_letter a.ex.now a.letter a.len a.out (sym c.is_complete.ensures.0 ∙ search rules) (sym c.in_range.ensures ∙ c.if-not-in_range.true)
 
 pub returns-then-not-in_range-2 : goal.returns-then-not-in_range-2
 returns-then-not-in_range-2 c =
     let a = c.args in
-    bad_length a.ex.now a.letter a.len a.out (done a.ex.now _ c.is_complete.ensures.0 (search rules)) (sym c.in_range.ensures ∙ c.if-not-in_range.false) (sym c.in_range-2.ensures ∙ c.if-not-in_range-2.true)
+    bad_length a.ex.now a.letter a.len a.out (sym c.is_complete.ensures.0 ∙ search rules) (sym c.in_range.ensures ∙ c.if-not-in_range.false) (sym c.in_range-2.ensures ∙ c.if-not-in_range-2.true)
 
 pub returns-then-out-len : goal.returns-then-out-len
 returns-then-out-len c =
     let a = c.args in
-    short_output a.ex.now a.letter a.len a.out (done a.ex.now _ c.is_complete.ensures.0 (search rules)) (sym c.in_range.ensures ∙ c.if-not-in_range.false) (sym c.in_range-2.ensures ∙ c.if-not-in_range-2.false) c.if-out-len.true
+    short_output a.ex.now a.letter a.len a.out (sym c.is_complete.ensures.0 ∙ search rules) (sym c.in_range.ensures ∙ c.if-not-in_range.false) (sym c.in_range-2.ensures ∙ c.if-not-in_range-2.false) c.if-out-len.true
 
 pub returns : goal.returns
 returns c =
     let a = c.args in
-    derives a.ex.now a.letter a.len a.out (done a.ex.now _ c.is_complete.ensures.0 (search rules)) (sym c.in_range.ensures ∙ c.if-not-in_range.false) (sym c.in_range-2.ensures ∙ c.if-not-in_range-2.false) c.if-out-len.false
+    derives a.ex.now a.letter a.len a.out (sym c.is_complete.ensures.0 ∙ search rules) (sym c.in_range.ensures ∙ c.if-not-in_range.false) (sym c.in_range-2.ensures ∙ c.if-not-in_range-2.false) c.if-out-len.false
