@@ -5,8 +5,8 @@
 #
 # usage: gate.sh
 #
-# `make test` calls it. What takes long in it is rt ci and what is tried behind it: from nothing half an hour, and where an earlier run on this machine passed the
-# same, minutes. Exits 0 where all passed, 1 where something did not, 2 where something is missing.
+# `make test` calls it. What takes long in it is rt ci and what is tried behind it: from nothing half an hour, and where an earlier run on this machine passed
+# the same, minutes. Exits 0 where all passed, 1 where something did not, 2 where something is missing.
 set -eu
 help() { sed -n '/^#!/d; /^#/!q; s/^# \{0,1\}//p' "$0"; }
 case ${1-} in -h | --help) help; exit ;; esac
