@@ -22,7 +22,11 @@ def sources(commit):
         for path in sorted(ROOT.glob("crates/*/src/**/*.rt")):
             yield str(path.relative_to(ROOT)), path.read_text()
         return
-    names = subprocess.run(["git", "ls-tree", "-r", "--name-only", commit, "crates"], cwd=ROOT, capture_output=True, text=True, check=True).stdout.split()
+    listed = subprocess.run(["git", "ls-tree", "-r", "--name-only", commit, "crates"], cwd=ROOT, capture_output=True, text=True)
+    if listed.returncode != 0:
+        print(f"forms.py: {commit} is no commit here", file=sys.stderr)
+        sys.exit(2)
+    names = listed.stdout.split()
     for name in names:
         if re.fullmatch(r"crates/\w+/src/.*\.rt", name):
             yield name, subprocess.run(["git", "show", f"{commit}:{name}"], cwd=ROOT, capture_output=True, text=True, check=True).stdout
@@ -39,6 +43,8 @@ def functions(text):
         begin = i
         while begin < len(lines) and not (lines[begin] == indent + "{" or (lines[begin].endswith("{") and not re.match(r"\s*(ensures|requires)", lines[begin]))):
             begin += 1
+        if any(part.endswith(";") for part in lines[i:begin]):
+            continue
         end = begin
         while end < len(lines) and lines[end] != indent + "}":
             end += 1
