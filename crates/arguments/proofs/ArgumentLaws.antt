@@ -1,12 +1,12 @@
--- A host's numbers: a law for each `return`; a wide number is judged as it came; what a strange KEM outcome meets. Assumes nothing.
-use Prim.Native.Nat.{ℕ, ◌≤◌, ◌<◌}
+-- A host's numbers: a wide number is judged as it came; what a strange KEM outcome meets. Assumes nothing.
+use Prim.Native.Nat.{ℕ, ◌<◌}
 use mathlib.Core.Path.{◌≡◌, refl, sym, ap, ◌∙◌}
 use mathlib.Core.List.{List}
 use mathlib.Core.Bool.{Bool, true, false, cond, not, ◌&&◌}
 use native.Mathlib.Omega.{arith}
 use lib.ListN.{length}
 use lib.Dec.{leb, eqb}
-use borrow.Author.Tests.{eq-eqb, ne_eqb, le-leb, lt-leb, leb-false}
+use borrow.Author.Tests.{ne_eqb, leb-false}
 use Rattle.wire.specs.Causes.{cause_unless}
 use Rattle.wire.proofs.CauseLaws.{unless_fails}
 use Rattle.limits.proofs.BoolLaws.{and_false}
@@ -20,33 +20,8 @@ use Rattle.exchange.specs.Steps.{started, started_room}
 use Rattle.exchange.specs.Again.{again_number}
 use Rattle.exchange.specs.declared.Exchange.{Exchange}
 use Rattle.exchange.specs.declared.Classical.{Classical}
-use Rattle.exchange.specs.declared.Classical.TheVariants.{Failed as NoX, Given}
-use Rattle.exchange.specs.declared.Kem.{Kem}
 use Rattle.exchange.specs.declared.Step.{Step}
-use Rattle.arguments.specs.Arguments.{is_yes, byte_of, classical_of, wrong_by, kem_of}
-
--- ---- a byte, and the outcomes
-
-pub byte_fits : (n : ℕ) → n ≤ 255 → n ≡ byte_of n
-unfolding byte_of
-byte_fits n h = rw (le-leb n 255 h)
-
-pub byte_none : (n : ℕ) → 255 < n → 0 ≡ byte_of n
-unfolding byte_of
-byte_none n h = rw (lt-leb n 255 h)
-
-pub classical_given : (g n : ℕ) → g ≡ 1 → Given n ≡ classical_of g n
-unfolding classical_of is_yes
-classical_given g n h = rw (eq-eqb g 1 h)
-
-pub classical_failed : (g n : ℕ) → ¬ (g ≡ 1) → NoX ≡ classical_of g n
-unfolding classical_of is_yes
-classical_failed g n h = rw (ne_eqb g 1 h)
-
--- a KEM outcome that is none: the presence that is wrong for the method
-pub kem_none : (m n : ℕ) (k : Kem) → ¬ (n ≡ 0) → ¬ (n ≡ 1) → ¬ (n ≡ 2) → k ≡ wrong_by (row_of m).k_form → k ≡ kem_of m n
-unfolding kem_of
-kem_none m n k a b c e = rw (ne_eqb n 0 a, ne_eqb n 1 b, ne_eqb n 2 c, e)
+use Rattle.arguments.specs.Arguments.{byte_of, wrong_by, kem_of}
 
 -- ---- a number that is no KEM outcome is 4, in its place
 

@@ -1,6 +1,6 @@
 // Numbers as a host hands them in, each 64 bits wide, as the values that the steps take. They are judged as they came and never cut: 257 is
 // no method, 2 is no yes.
-#![tactic(auto)]
+#![tactic(auto, unfolding(crate::specs::Arguments::is_yes, crate::specs::Arguments::byte_of, crate::specs::Arguments::classical_of, crate::specs::Arguments::kem_of))]
 
 ghost use Rattle.std.specs.Prelude.{◌≡◌};
 ghost use Rattle.arguments.specs.Arguments.{is_yes, byte_of, classical_of, wrong_by, kem_of};
@@ -16,25 +16,21 @@ pub fn is_yes(n: u64) -> bool
 }
 
 // A role or a method as a byte; 0, which is neither, for a number that is no byte.
-#[tactic(auto, using(crate::proofs::ArgumentLaws::byte_none, crate::proofs::ArgumentLaws::byte_fits))]
 pub fn byte_of(n: u64) -> u8
     ensures { result ≡ byte_of n }
 {
-    if 255 < n {
-        return 0;
-    }
-    n as u8
+    u8::try_from(n).unwrap_or(0)
 }
 
 // The classical outcome: given so many bytes, or failed.
-#[tactic(auto, using(crate::proofs::ArgumentLaws::classical_given, crate::proofs::ArgumentLaws::classical_failed))]
 pub fn classical_of(given: u64, count: u64) -> Classical
     ensures { result ≡ classical_of given count }
 {
-    if given == 1 {
-        return Classical::Given(count as usize);
+    if is_yes(given) {
+        Classical::Given(count as usize)
+    } else {
+        Classical::Failed
     }
-    Classical::Failed
 }
 
 // The presence of a KEM that is wrong where K has this form.
@@ -51,14 +47,10 @@ fn wrong_kem(form: KForm) -> Kem
 pub fn kem_of(method: u8, kem: u64) -> Kem
     ensures { result ≡ kem_of method kem }
 {
-    if kem == 0 {
-        return Kem::Absent;
+    match kem {
+        0 => Kem::Absent,
+        1 => Kem::Failed,
+        2 => Kem::Done,
+        _ => wrong_kem(methods::k_form(method)),
     }
-    if kem == 1 {
-        return Kem::Failed;
-    }
-    if kem == 2 {
-        return Kem::Done;
-    }
-    wrong_kem(methods::k_form(method))
 }

@@ -1,8 +1,8 @@
 -- Answers as the numbers that go through lent ones. Assumes nothing.
 use Rattle.std.specs.Prelude.{ℕ, List, [], ◌∷◌, ◌++◌, cond, get_or}
 use Rattle.names.specs.declared.Cursor.{Cursor}
-use Rattle.kexinit.specs.declared.Opened.{Opened}
-use Rattle.choice.specs.declared.Choice.{Choice}
+use Rattle.kexinit.specs.Reader.{Opened}
+use Rattle.choice.specs.Choice.{Choice}
 use Rattle.lent.specs.Lent.{place_of}
 
 -- a cursor as two numbers, and the cursor of two

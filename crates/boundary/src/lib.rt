@@ -1,6 +1,7 @@
 // The C boundary: every entry of the core, as `boundary_c` exports it. Only what every C calling convention agrees on crosses: slices as a
 // pointer and a 64-bit length, pointers to 64-bit numbers and to H's 64 bytes, and 64-bit numbers. A call returns its number; what else it
-// tells goes through lent numbers.
+// tells goes through lent numbers: here an Option or a Result becomes what the C interface needs. A part's two numbers are widened where they are told: an array
+// of both would be taken apart again in the next line.
 #![tactic(auto)]
 
 ghost use Rattle.std.specs.Prelude.{◌≡◌, [], ◌∷◌, ◌++◌, cond, length};
@@ -27,6 +28,7 @@ ghost use Rattle.lent.specs.Lent.{place_of, left, lent_start, lent_call, positio
 ghost use Rattle.lent_hash.specs.LentHash.{hash_left, hash_start_left, hash_feed_left, hash_finish_left};
 ghost use Rattle.boundary.specs.Answers.{cursor_of, cursor_numbers, opened_numbers, choice_numbers};
 
+use limits::Refusal;
 use names::Cursor;
 
 // ---- the codecs
@@ -36,14 +38,21 @@ pub fn castulfrisa_read_string(s: &[u8], places: &mut [u64; 4]) -> u64
     ensures { let r = read_string s.now in
         (result ≡ r.number) × (places.new ≡ place_of r.body ++ place_of r.rest) }
 {
-    let r = wire::read_string(s);
-    *places = [
-        r.body.start as u64,
-        r.body.len as u64,
-        r.rest.start as u64,
-        r.rest.len as u64,
-    ];
-    r.number as u64
+    match wire::read_string(s) {
+        Some(r) => {
+            *places = [
+                r.body.start as u64,
+                r.body.len as u64,
+                r.rest.start as u64,
+                r.rest.len as u64,
+            ];
+            0
+        }
+        None => {
+            *places = [0; 4];
+            Refusal::FieldPastEnd as u64
+        }
+    }
 }
 
 // Writes body as a string. Told: its count.
@@ -52,9 +61,16 @@ pub fn castulfrisa_write_string(out: &mut [u8], body: &[u8], count: &mut u64) ->
         let cause = string_cause (length out.old) b in
         (result ≡ cause) × (count.new ≡ (wrote cause (string b)).count) × (out.new ≡ leaves cause (string b) out.old) }
 {
-    let w = writers::write_string(out, body);
-    *count = w.count as u64;
-    w.number as u64
+    match writers::write_string(out, body) {
+        Ok(n) => {
+            *count = n as u64;
+            0
+        }
+        Err(e) => {
+            *count = 0;
+            e.number() as u64
+        }
+    }
 }
 
 // The mpint at the front of s. Told: its sign, and the places of its body and of the rest.
@@ -62,15 +78,23 @@ pub fn castulfrisa_read_mpint(s: &[u8], sign: &mut i64, places: &mut [u64; 4]) -
     ensures { let r = read_mpint s.now in
         (result ≡ r.number) × (sign.new ≡ r.sign) × (places.new ≡ place_of r.body ++ place_of r.rest) }
 {
-    let r = mpint::read_mpint(s);
-    *sign = lookups::told_sign(r.sign);
-    *places = [
-        r.body.start as u64,
-        r.body.len as u64,
-        r.rest.start as u64,
-        r.rest.len as u64,
-    ];
-    r.number as u64
+    match mpint::read_mpint(s) {
+        Ok(r) => {
+            *sign = lookups::told_sign(r.sign);
+            *places = [
+                r.body.start as u64,
+                r.body.len as u64,
+                r.rest.start as u64,
+                r.rest.len as u64,
+            ];
+            0
+        }
+        Err(e) => {
+            *sign = 0;
+            *places = [0; 4];
+            e.number() as u64
+        }
+    }
 }
 
 // Writes the number of two's complement bytes as an mpint. Told: its count.
@@ -79,9 +103,16 @@ pub fn castulfrisa_write_mpint(out: &mut [u8], bytes: &[u8], count: &mut u64) ->
         let cause = string_cause (length out.old) (shortest b) in
         (result ≡ cause) × (count.new ≡ (wrote cause (mpint b)).count) × (out.new ≡ leaves cause (mpint b) out.old) }
 {
-    let w = mpint::write_mpint(out, bytes);
-    *count = w.count as u64;
-    w.number as u64
+    match mpint::write_mpint(out, bytes) {
+        Ok(n) => {
+            *count = n as u64;
+            0
+        }
+        Err(e) => {
+            *count = 0;
+            e.number() as u64
+        }
+    }
 }
 
 // ---- the methods
@@ -116,19 +147,24 @@ pub fn castulfrisa_open_list(payload: &[u8], list: u64, opened: &mut [u64; 7]) -
     ensures { let r = open_list payload.now list in
         (result ≡ r.head.number) × (opened.new ≡ opened_numbers r) }
 {
-    let r = kexinit::open_list(payload, list as usize);
-    let h = r.head;
-    let c = r.cursor;
-    *opened = [
-        h.cookie.start as u64,
-        h.cookie.len as u64,
-        lookups::told(h.follows),
-        h.reserved as u64,
-        c.at as u64,
-        c.end as u64,
-        h.position as u64,
-    ];
-    h.number as u64
+    match kexinit::open_list(payload, list as usize) {
+        Ok(o) => {
+            *opened = [
+                o.fixed.cookie.start as u64,
+                o.fixed.cookie.len as u64,
+                lookups::told(o.fixed.follows),
+                o.fixed.reserved as u64,
+                o.cursor.at as u64,
+                o.cursor.end as u64,
+                0,
+            ];
+            0
+        }
+        Err(r) => {
+            *opened = [0, 0, 0, 0, 1, 0, r.position as u64];
+            r.cause.number() as u64
+        }
+    }
 }
 
 // The next name of an opened list; the cursor moves behind it. Told: its place, with no bytes at the list's end.
@@ -140,11 +176,16 @@ pub fn castulfrisa_next_name(payload: &[u8], cursor: &mut [u64; 2], name: &mut [
         at: cursor[0] as usize,
         end: cursor[1] as usize,
     };
-    let r = names::next_name(payload, c);
-    let d = r.cursor;
-    *cursor = [d.at as u64, d.end as u64];
-    *name = [r.name.start as u64, r.name.len as u64];
-    r.number as u64
+    *name = [0, 0];
+    match names::next_name(payload, c) {
+        Ok(Some(n)) => {
+            *cursor = [n.cursor.at as u64, n.cursor.end as u64];
+            *name = [n.name.start as u64, n.name.len as u64];
+            0
+        }
+        Ok(None) => 0,
+        Err(e) => e.number() as u64,
+    }
 }
 
 // Writes a KEXINIT from ten lists, told by their ends. Told: its count, and which list is bad.
@@ -170,15 +211,22 @@ pub fn castulfrisa_choose(client: &[u8], server: &[u8], choice: &mut [u64; 5]) -
     ensures { let r = chosen any client.now server.now in
         (result ≡ r.number) × (choice.new ≡ choice_numbers r) }
 {
-    let r = choice::choose(client, server);
-    *choice = [
-        r.method as u64,
-        r.host_key.start as u64,
-        r.host_key.len as u64,
-        lookups::told(r.ignore_client),
-        lookups::told(r.ignore_server),
-    ];
-    r.number as u64
+    match choice::choose(client, server) {
+        Ok(r) => {
+            *choice = [
+                r.method as u64,
+                r.host_key.start as u64,
+                r.host_key.len as u64,
+                lookups::told(r.ignore_client),
+                lookups::told(r.ignore_server),
+            ];
+            0
+        }
+        Err(e) => {
+            *choice = [0; 5];
+            e.number() as u64
+        }
+    }
 }
 
 // ---- the exchange, in bytes that the host lends

@@ -6,11 +6,13 @@ use mathlib.Core.Bool.{Bool, true, false, cond, ◌&&◌, false≢true}
 use native.Mathlib.Omega.{arith}
 use native.Mathlib.Nat.{add_assoc, add-zero, zero-add}
 use native.Mathlib.Numerals.{add-one}
+use borrow.Rule.Slice.PartMut.{put_mid}
 use lib.ListN.{length, get_or, take, drop, set, length-append, length-drop, length-replicate, replicate-append-replicate, take-append-drop}
-use lib.Seq.{sets-eq, paste, paste-suc, take_all, take-length, length-take-le, take_at, drop_at, drop-length, drop-append-add, drop-drop, drop-cons}
+use lib.Seq.{sets-eq, paste, take_all, take-length, length-take-le, take_at, drop_at, drop-length, drop-append-add, drop-drop, drop-cons}
 use lib.Dec.{eqb, leb}
+use Rattle.std.specs.List.{zip, list_all}
 use borrow.Author.Tests.{le-leb, lt-leb, leb-true, leb-false, eqb-true, eq-eqb}
-use Rattle.buffers.specs.Bytes.{Bytes, zeros, same, onto, over, laid, stored, eight}
+use Rattle.buffers.specs.Bytes.{Bytes, zeros, same, onto, over, laid}
 
 -- the part `&s[k..]`, as the slice rule states it
 pub tail_part : (s : List ℕ) (k : ℕ) → take (length s - k) (drop k s) ≡ drop k s
@@ -64,10 +66,12 @@ same_lengths (a ∷ l) (b ∷ m) h = by_test (eqb a b) (same_lengths l m (λ e. 
     by_test true k = k
     by_test false k = refl
 
--- one place further on
-pub same_at : (l m : List ℕ) (i : ℕ) → i < length l → i < length m
-    → same (drop i l) (drop i m) ≡ eqb (get_or l i 0) (get_or m i 0) && same (drop (i + 1) l) (drop (i + 1) m)
-same_at l m i h k = rw (drop-cons l i 0 h, drop-cons m i 0 k, add-one)
+-- of lists as long as one another, pair by pair
+pub same_zip : (l m : List ℕ) → length l ≡ length m → list_all (λ (p : ℕ × ℕ). eqb p.0 p.1) (zip l m) ≡ same l m
+same_zip [] [] e = refl
+same_zip [] (b ∷ m) e = absurd (omega (arith, e))
+same_zip (a ∷ l) [] e = absurd (omega (arith, e))
+same_zip (a ∷ l) (b ∷ m) e = ap (λ (t : Bool). eqb a b && t) (same_zip l m (omega (arith, e)))
 
 -- ---- over
 
@@ -100,7 +104,7 @@ pub over_nil : (l : List ℕ) (at : ℕ) → over l at [] ≡ l
 unfolding over
 over_nil l at = simp (append-nil, add-zero, take-append-drop)
 
--- one store, two and four
+-- one store, and two
 pub over_one : (l : List ℕ) (at a : ℕ) → at + 1 ≤ length l → set l at a ≡ over l at (a ∷ [])
 unfolding over
 over_one l at a h = sets-eq (a ∷ []) l at h
@@ -109,51 +113,16 @@ pub over_two : (l : List ℕ) (at a b : ℕ) → at + 2 ≤ length l → set (se
 unfolding over
 over_two l at a b h = let e : at + 1 ≡ suc at = omega arith in rw e (sets-eq (a ∷ b ∷ []) l at h)
 
-pub over_four : (l : List ℕ) (at a b c d : ℕ) → at + 4 ≤ length l
-    → set (set (set (set l at a) (at + 1) b) (at + 2) c) (at + 3) d ≡ over l at (a ∷ b ∷ c ∷ d ∷ [])
+-- a part that was written over
+pub over_part : (l : List ℕ) (at n : ℕ) (b new : List ℕ) → n ≡ length b → new ≡ b → put_mid at n l new ≡ over l at b
 unfolding over
-over_four l at a b c d h =
-    let e1 : at + 1 ≡ suc at = omega arith in
-    let e2 : at + 2 ≡ suc (suc at) = omega arith in
-    let e3 : at + 3 ≡ suc (suc (suc at)) = omega arith in
-    rw (e1, e2, e3) (sets-eq (a ∷ b ∷ c ∷ d ∷ []) l at h)
-
--- a copy at its end
-pub over_paste : (l : List ℕ) (at : ℕ) (s : List ℕ) → paste l at s (length s) ≡ over l at s
-unfolding over
-over_paste l at s = rw (take-length s)
+over_part l at n b new e q =
+    let w : put_mid at n l new ≡ put_mid at (length b) l b = λ i. put_mid at (e i) l (q i) in
+    let d : put_mid at (length b) l b ≡ over l at b =
+    ap (λ (x : List ℕ). take at l ++ (b ++ x)) (drop-drop (length b) at l) ∙ sym (append_assoc (take at l) b (drop (at + length b) l)) in
+    w ∙ d
 
 -- ---- onto
-
--- bytes stored one by one behind those that are laid already
-stored_paste : (d : List ℕ) (at : ℕ) (s : List ℕ) (i k n : ℕ) → at + (i + (k + n)) ≤ length d → i + (k + n) ≤ length s
-    → stored at s i k n (paste d at s (i + k)) ≡ paste d at s (i + (k + n))
-stored_paste d at s i k zero h g = let e : i + k ≡ i + (k + 0) = omega arith in ap (paste d at s) e
-stored_paste d at s i k (suc n) h g =
-    let a : at + (i + k) < length d = omega arith in
-    let b : i + k < length s = omega arith in
-    let e : suc (i + k) ≡ i + suc k = omega arith in
-    let f : i + (suc k + n) ≡ i + (k + suc n) = omega arith in
-    ap (stored at s i (suc k) n) (paste-suc d at s (i + k) 0 a b ∙ ap (paste d at s) e)
-    ∙ stored_paste d at s i (suc k) n (omega arith) (omega arith)
-    ∙ ap (paste d at s) f
-
-eight_paste : (d : List ℕ) (at : ℕ) (s : List ℕ) (i : ℕ) → at + (i + 8) ≤ length d → i + 8 ≤ length s
-    → eight at s i (paste d at s i) ≡ paste d at s (i + 8)
-eight_paste d at s i h g =
-    let a : at + i < length d = omega arith in
-    let b : i < length s = omega arith in
-    let e : suc i ≡ i + 1 = omega arith in
-    ap (stored at s i 1 7) (paste-suc d at s i 0 a b ∙ ap (paste d at s) e)
-    ∙ stored_paste d at s i 1 7 h g
-
-pub sixteen_paste : (d : List ℕ) (at : ℕ) (s : List ℕ) (i : ℕ) → at + (i + 16) ≤ length d → i + 16 ≤ length s
-    → eight at s (i + 8) (eight at s i (paste d at s i)) ≡ paste d at s (i + 16)
-sixteen_paste d at s i h g =
-    let e : i + 8 + 8 ≡ i + 16 = omega arith in
-    ap (eight at s (i + 8)) (eight_paste d at s i (omega arith) (omega arith))
-    ∙ eight_paste d at s (i + 8) (omega arith) (omega arith)
-    ∙ ap (paste d at s) e
 
 pub length_onto : (l b : List ℕ) → length b ≤ length l → length (onto l b) ≡ length l
 unfolding onto

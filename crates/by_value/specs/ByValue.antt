@@ -1,5 +1,5 @@
 -- An exchange by value as bytes of its own. Assumes nothing.
-use Rattle.std.specs.Prelude.{ℕ, List, Bool, cond, ◌&&◌, leb}
+use Rattle.std.specs.Prelude.{ℕ, List, Option, None, Some, Bool, cond, ◌&&◌, leb}
 use Rattle.limits.specs.Limits.{length_most, count_most}
 use Rattle.exchange.specs.declared.Lengths.{Lengths}
 use Rattle.exchange.specs.declared.Exchange.{Exchange}
@@ -21,9 +21,9 @@ fits_two l =
 unfoldable pub fits_bytes : Exchange → Bool
 fits_bytes e = fits_two e.lens && leb e.session.len length_most && leb e.session.count count_most
 
--- lent bytes with an exchange laid into them: they stay as they were unless they are as many as one has, and hold what it records
-unfoldable pub with_exchange : List ℕ → Exchange → List ℕ
-with_exchange b e = cond (fits_bytes e) (by_size b (encoded e) b) b
+-- the bytes of an exchange, where they hold what it records
+abbrev pub some_bytes : Exchange → Option (List ℕ)
+some_bytes e = cond (fits_bytes e) (Some (encoded e)) None
 
 -- the answer that the bytes give back
 unfoldable pub back : ℕ → ℕ → ℕ → ℕ → List ℕ → Step

@@ -1,15 +1,16 @@
 -- What a step changes in an exchange's bytes makes them the bytes of the changed exchange. Assumes nothing.
-use Prim.Native.Nat.{ℕ, ◌+◌, ◌/◌, ◌≤◌}
+use Prim.Native.Nat.{ℕ, ◌+◌, ◌-◌, ◌/◌, ◌%◌, ◌≤◌}
 use mathlib.Core.Path.{◌≡◌, refl, sym, ap, ◌∙◌}
-use mathlib.Core.List.{List, [], ◌++◌, append_assoc, append-nil}
-use mathlib.Core.Bool.{Bool, true, false, cond}
+use mathlib.Core.List.{List, [], ◌∷◌, ◌++◌, append_assoc, append-nil}
+use mathlib.Core.Bool.{Bool, true, false, cond, false≢true}
 use native.Mathlib.Omega.{arith}
-use lib.ListN.{length, length-set, set, take, drop, length-append}
+use lib.ListN.{length, set, get_or, take, drop, length-append}
 use lib.Dec.{eqb}
-use lib.Seq.{take_at, drop_at}
+use lib.Seq.{drop-drop, take_at, drop_at}
+use borrow.Author.Tests.{eqb-true, eq-eqb}
 use Rattle.limits.specs.Limits.{k_size, h_size, exchange_size}
 use Rattle.buffers.specs.Bytes.{zeros, over, laid}
-use Rattle.buffers.proofs.ByteLaws.{length_over, over_over, laid_fits}
+use Rattle.buffers.proofs.ByteLaws.{over_two, laid_fits}
 use Rattle.methods.specs.Rows.{row_of}
 use Rattle.exchange.specs.Steps.{with_c, with_s, with_stage, with_secret, one_more, with_last}
 use Rattle.exchange.specs.declared.Stage.{Stage}
@@ -17,7 +18,7 @@ use Rattle.exchange.specs.declared.Stage.TheVariants.{SecretDone, Complete}
 use Rattle.exchange.specs.declared.Lengths.{Lengths}
 use Rattle.exchange.specs.declared.Session.{Session}
 use Rattle.exchange.specs.declared.Exchange.{Exchange}
-use Rattle.stored.specs.Stored.{stage_number, fail_number, bytes16, bytes64, number64, head_of, session_bytes, encoded, decoded}
+use Rattle.stored.specs.Stored.{stage_number, fail_number, bytes16, bytes64, number64, head_of, session_bytes, encoded, decoded, by_size}
 use Rattle.stored.proofs.RoundTrip.{Short, SmallSession, decoded_encoded}
 use Rattle.changes.specs.Changes.{put16, put_count, put_more, put_head}
 
@@ -143,22 +144,22 @@ module _ (e : Exchange) (l : length e.k ≡ k_size) (m : length e.h ≡ h_size) 
     pub last_put : fail_number e.stage ≡ 0 → set (put_more (encoded e)) 1 5 ≡ encoded (with_last e)
     last_put f = ap (λ (x : List ℕ). set x 1 5) more_put ∙ stage_put (with-session (one_more e.method e.h e.session)) Complete f
 
--- the count's eight bytes, two at a time
-pub count_laid : (b o1 o2 o3 o4 : List ℕ) (n : ℕ) → length b ≡ exchange_size → o1 ≡ put16 b 156 (n / 281474976710656) → o2 ≡ put16 o1 158 (n / 4294967296)
-    → o3 ≡ put16 o2 160 (n / 65536) → o4 ≡ put16 o3 162 n → o4 ≡ put_count b n
-count_laid b o1 o2 o3 o4 n h e1 e2 e3 e4 =
-    let x1 = bytes16 (n / 281474976710656) in
-    let x2 = x1 ++ bytes16 (n / 4294967296) in
-    let x3 = x2 ++ bytes16 (n / 65536) in
-    let f2 = e2 ∙ ap (λ (l : List ℕ). put16 l 158 (n / 4294967296)) e1 ∙ over_over b 156 x1 (bytes16 (n / 4294967296)) (omega arith) in
-    let f3 = e3 ∙ ap (λ (l : List ℕ). put16 l 160 (n / 65536)) f2 ∙ over_over b 156 x2 (bytes16 (n / 65536)) (omega arith) in
-    e4 ∙ ap (λ (l : List ℕ). put16 l 162 n) f3 ∙ over_over b 156 x3 (bytes16 n) (omega arith)
+-- ---- a length's two bytes, put one by one
+pub two_put : (b : List ℕ) (at n : ℕ) (bs : List ℕ) → at + 2 ≤ length b → bs ≡ bytes16 n → set (set b at (get_or bs 0 0)) (at + 1) (get_or bs 1 0) ≡ put16 b at n
+two_put b at n bs h e = over_two b at (get_or bs 0 0) (get_or bs 1 0) h ∙ (λ i. over b at (get_or (e i) 0 0 ∷ get_or (e i) 1 0 ∷ []))
 
--- ---- what is changed is as long
+-- ---- what stands in the place of k bytes
+pub part_put : (b z y : List ℕ) (at k : ℕ) → z ≡ y → length y ≡ k → take at b ++ (z ++ drop (at + k - at) (drop at b)) ≡ over b at y
+unfolding over
+part_put b z y at k e l =
+    let h : at + k - at ≡ length y = omega (arith, l) in
+    (λ i. take at b ++ (e i ++ drop (h i) (drop at b))) ∙ (λ i. take at b ++ (y ++ drop-drop (length y) at b i)) ∙ sym (append_assoc (take at b) y (drop (at + length y) b))
 
-module _ (b : List ℕ) (s : ℕ) (h : length b ≡ exchange_size) where
-  pub length_put : (at n : ℕ) → at + 2 ≤ exchange_size → length (put16 (set b 1 s) at n) ≡ length b
-  length_put at n k = length_over (set b 1 s) at (bytes16 n) (omega (arith, length-set b 1 s)) ∙ length-set b 1 s
-
-  pub length_puts : (at m bt n : ℕ) → at + 2 ≤ exchange_size → bt + 2 ≤ exchange_size → length (put16 (put16 (set b 1 s) at m) bt n) ≡ length b
-  length_puts at m bt n k l = length_over (put16 (set b 1 s) at m) bt (bytes16 n) (omega (arith, length_put at m k)) ∙ length_put at m k
+-- ---- what is changed where the bytes are as many as an exchange has, and else stays
+pub changed : (b new x : List ℕ) → (length b ≡ exchange_size → new ≡ x) → (¬ (length b ≡ exchange_size) → new ≡ b) → new ≡ by_size b x b
+unfolding by_size
+changed b new x h k = go (eqb (length b) exchange_size) refl
+  where
+    go : (t : Bool) → eqb (length b) exchange_size ≡ t → new ≡ cond t x b
+    go true e = h (eqb-true (length b) exchange_size e)
+    go false e = k (λ z. absurd (false≢true (sym e ∙ eq-eqb (length b) exchange_size z)))

@@ -2,7 +2,7 @@
 use Prim.Native.Nat.{ℕ, zero, suc, ◌+◌, ◌-◌, ◌≤◌, ◌<◌}
 use mathlib.Core.Path.{◌≡◌, refl, sym, ap, ◌∙◌}
 use mathlib.Core.List.{List, []}
-use mathlib.Core.Bool.{Bool, true, false, cond, ◌&&◌}
+use mathlib.Core.Bool.{Bool, true, false, cond, not, ◌&&◌}
 use native.Mathlib.Omega.{arith}
 use lib.ListN.{length, take, drop, length-drop}
 use lib.Seq.{length-take-le}
@@ -13,18 +13,16 @@ use Rattle.wire.specs.Parts.{bytes_at}
 use Rattle.wire.specs.declared.Part.{Part}
 use Rattle.wire.proofs.CauseLaws.{if_holds, if_fails, unless_holds, unless_fails, unless_none, or_else_first, or_else_second, or_else_none}
 use Rattle.limits.specs.Limits.{list_count}
-use Rattle.limits.proofs.BoolLaws.{and_true, and_false}
+use Rattle.limits.proofs.BoolLaws.{and_true}
 use Rattle.limits.specs.Every.{every}
 use Rattle.names.specs.Names.{good_name, good_list, up_to_bad, names_of}
 use Rattle.names.specs.Cursor.{cursor_of, names_cause, bad_name}
 use Rattle.names.specs.declared.Cursor.{Cursor}
 use Rattle.names.proofs.NameLaws.{up_to_bad_all}
-use Rattle.kexinit.specs.Reader.{kexinit_cause, list_part, list_names, head_refused, head_by, open_head}
-use Rattle.kexinit.specs.declared.Head.{Head}
+use Rattle.kexinit.specs.Reader.{kexinit_cause, list_part, list_names, Head, head_refused, head_by, open_head}
 use Rattle.kexinit.proofs.ReaderLaws.{head_other, head_number, list_ahead, list_at}
 use Rattle.common.specs.Common.{any, every_name, common, method_in, common_part, first_of}
-use Rattle.choice.specs.Choice.{lists_from, all_lists, payload_cause, judged_head, method_from, host_key_from, choice_cause, guessed_wrong, choice_refused, chosen}
-use Rattle.choice.specs.declared.Choice.{Choice}
+use Rattle.choice.specs.Choice.{Choice, lists_from, all_lists, payload_cause, judged_head, method_from, host_key_from, choice_cause, guessed_wrong, choice_refused, chosen}
 use Rattle.common.proofs.CommonLaws.{names_from, Placed, common_placed}
 
 -- ---- the lists that are left to judge
@@ -80,6 +78,10 @@ module _ (p : List ℕ) where
       by_test : (t : Bool) → list_good n ≡ t → list_good n ≡ false
       by_test true q = absurd (b (names_cause_lem n ∙ ap (λ (t : Bool). cond t 0 19) q))
       by_test false q = q
+
+  -- which is the number
+  pub list_number : (n : ℕ) → list_good n ≡ false → names_cause p (cursor_of (list_part p n)) ≡ 19
+  list_number n e = names_cause_lem n ∙ ap (λ (t : Bool). cond t 0 19) e
 
   -- 0: none is
   pub list_fine : (n : ℕ) → names_cause p (cursor_of (list_part p n)) ≡ 0 → list_good n ≡ true
@@ -217,25 +219,14 @@ module _ (client server : List ℕ) (a : payload_cause client ≡ 0) (b : payloa
 -- ---- guessed_wrong
 
 module _ (client server : List ℕ) where
-  -- both first names are the same
-  pub guess_right : same (first_of (list_names client 1)) (first_of (list_names server 1)) ≡ true
-      → same (first_of (list_names client 2)) (first_of (list_names server 2)) ≡ true → guessed_wrong client server ≡ false
-  guess_right h k = rw (h, k)
-
   -- those of list 1 differ
   pub guess_method : same (first_of (list_names client 1)) (first_of (list_names server 1)) ≡ false → guessed_wrong client server ≡ true
   guess_method h = rw h
 
-  -- those of list 2 do
+  -- they do not: then those of list 2 say it
   pub guess_host_key : same (first_of (list_names client 1)) (first_of (list_names server 1)) ≡ true
-      → same (first_of (list_names client 2)) (first_of (list_names server 2)) ≡ false → guessed_wrong client server ≡ true
-  guess_host_key h k = rw (h, k)
-
--- ---- &&, by its second test
-
-and_is : (t : Bool) → t && true ≡ t
-and_is true = refl
-and_is false = refl
+      → guessed_wrong client server ≡ not (same (first_of (list_names client 2)) (first_of (list_names server 2)))
+  guess_host_key h = rw h
 
 module _ (allowed : ℕ → Bool) (client server : List ℕ) where
   -- ---- choice_cause
@@ -298,30 +289,12 @@ module _ (allowed : ℕ → Bool) (client server : List ℕ) where
   unfolding chosen
   chosen_found e = rw e
 
-  -- a choice as the code answers it: the guess is right
-  pub chosen_right : (m : ℕ) (w : Part) → payload_cause client ≡ 0 → payload_cause server ≡ 0 → m ≡ method_from allowed client server → (m ≡ 0 → ⊥)
-      → w ≡ host_key_from client server → (w.len ≡ 0 → ⊥) → guessed_wrong client server ≡ false
-      → ◌≡◌ {A = Choice} (record { number = 0; method = m; host_key = w; ignore_client = false; ignore_server = false }) (chosen allowed client server)
-  chosen_right m w a b x y u v g =
-      let f : (t : Bool) → t && guessed_wrong client server ≡ false = λ t. ap (λ (d : Bool). t && d) g ∙ and_false t in
-      (λ i. record {
-        number = 0;
-        method = x i;
-        host_key = u i;
-        ignore_client = sym (f (open_head client).follows) i;
-        ignore_server = sym (f (open_head server).follows) i;
-      })
-      ∙ sym (chosen_found (choice_none a b (λ z. y (x ∙ z)) (λ z. v (ap (λ (q : Part). q.len) u ∙ z))))
-
-  -- it is wrong
-  pub chosen_wrong : (m : ℕ) (w : Part) (o q : Bool) → payload_cause client ≡ 0 → payload_cause server ≡ 0 → m ≡ method_from allowed client server
-      → (m ≡ 0 → ⊥) → w ≡ host_key_from client server → (w.len ≡ 0 → ⊥) → o ≡ (open_head client).follows → q ≡ (open_head server).follows → guessed_wrong client server ≡ true
-      → ◌≡◌ {A = Choice} (record { number = 0; method = m; host_key = w; ignore_client = o; ignore_server = q }) (chosen allowed client server)
-  chosen_wrong m w o q a b x y u v k l g =
-      let f : (t : Bool) → t && guessed_wrong client server ≡ t = λ t. ap (λ (d : Bool). t && d) g ∙ and_is t in
-      let d : o ≡ (open_head client).follows && guessed_wrong client server = k ∙ sym (f (open_head client).follows) in
-      let e : q ≡ (open_head server).follows && guessed_wrong client server = l ∙ sym (f (open_head server).follows) in
-      (λ i. record { number = 0; method = x i; host_key = u i; ignore_client = d i; ignore_server = e i })
+  -- a choice as the code answers it
+  pub chosen_is : (m : ℕ) (w : Part) (o q g : Bool) → payload_cause client ≡ 0 → payload_cause server ≡ 0 → m ≡ method_from allowed client server
+      → (m ≡ 0 → ⊥) → w ≡ host_key_from client server → (w.len ≡ 0 → ⊥) → o ≡ (open_head client).follows → q ≡ (open_head server).follows → g ≡ guessed_wrong client server
+      → ◌≡◌ {A = Choice} (record { number = 0; method = m; host_key = w; ignore_client = o && g; ignore_server = q && g }) (chosen allowed client server)
+  chosen_is m w o q g a b x y u v k l e =
+      (λ i. record { number = 0; method = x i; host_key = u i; ignore_client = k i && e i; ignore_server = l i && e i })
       ∙ sym (chosen_found (choice_none a b (λ z. y (x ∙ z)) (λ z. v (ap (λ (r : Part). r.len) u ∙ z))))
 
   -- what is chosen is that name

@@ -1,16 +1,26 @@
 -- The choice from two KEXINIT payloads (SPECIFICATION 4.5 to 4.8). Assumes nothing.
-use Rattle.std.specs.Prelude.{ℕ, zero, suc, List, [], ◌∷◌, Bool, false, cond, not, ◌&&◌, ◌||◌, eqb}
+use Rattle.std.specs.Prelude.{ℕ, zero, suc, List, [], ◌∷◌, Bool, false, Result, Ok, Err, cond, not, ◌&&◌, ◌||◌, eqb}
 use Rattle.buffers.specs.Bytes.{same}
 use Rattle.wire.specs.Causes.{cause_if, cause_unless, or_else}
 use Rattle.wire.specs.Parts.{nothing, bytes_at}
 use Rattle.wire.specs.declared.Part.{Part}
+use Rattle.limits.specs.Refusals.{number_of}
+use Rattle.limits.specs.declared.Refusal.{Refusal}
 use Rattle.limits.specs.Limits.{list_count}
 use Rattle.limits.specs.Every.{every}
 use Rattle.names.specs.Names.{good_list}
-use Rattle.kexinit.specs.Reader.{kexinit_cause, list_part, list_names, head_by, open_head}
-use Rattle.kexinit.specs.declared.Head.{Head}
+use Rattle.kexinit.specs.Reader.{kexinit_cause, list_part, list_names, Head, head_by, open_head}
 use Rattle.common.specs.Common.{method_in, common_part, first_of}
-use Rattle.choice.specs.declared.Choice.{Choice}
+use Rattle.choice.specs.declared.Chosen.{Chosen}
+
+-- what a choice hands back: 0 with the method, the host key name's place in the client's payload, and whether each side's next packet is to
+-- be ignored; or the number of a refusal and none of them
+pub record Choice : Type 0 where
+  pub number : ℕ
+  pub method : ℕ
+  pub host_key : Part
+  pub ignore_client : Bool
+  pub ignore_server : Bool
 
 -- k lists from number n on; all ten
 abbrev pub lists_from : ℕ → ℕ → List ℕ
@@ -51,6 +61,11 @@ guessed_wrong client server =
 
 abbrev pub choice_refused : ℕ → Choice
 choice_refused k = record { number = k; method = 0; host_key = nothing; ignore_client = false; ignore_server = false }
+
+-- the same by an answer
+abbrev pub choice_told : Result Chosen Refusal → Choice
+choice_told (Ok c) = record { number = 0; method = c.method; host_key = c.host_key; ignore_client = c.ignore_client; ignore_server = c.ignore_server }
+choice_told (Err e) = choice_refused (number_of e)
 
 -- a side's next packet is to be ignored exactly when its boolean is true and the guess is wrong
 unfoldable pub chosen : (ℕ → Bool) → List ℕ → List ℕ → Choice

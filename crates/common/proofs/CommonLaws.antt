@@ -2,10 +2,10 @@
 use Prim.Native.Nat.{ℕ, zero, suc, ◌+◌, ◌≤◌, ◌<◌}
 use mathlib.Core.Path.{◌≡◌, refl, sym, ap, ◌∙◌}
 use mathlib.Core.List.{List, [], ◌∷◌}
-use mathlib.Core.Bool.{Bool, true, false, cond, ◌&&◌, ◌||◌}
+use mathlib.Core.Bool.{Bool, true, false, cond, ◌&&◌, ◌||◌, false≢true}
 use native.Mathlib.Omega.{arith}
 use lib.ListN.{length}
-use borrow.Author.Tests.{lt-ltb, le-ltb}
+use borrow.Author.Tests.{lt-ltb, le-ltb, ne_eqb, eqb-true, eqb-false}
 use Rattle.buffers.specs.Bytes.{same}
 use Rattle.wire.specs.Parts.{part, nothing, inside, bytes_at}
 use Rattle.wire.specs.declared.Part.{Part}
@@ -13,13 +13,21 @@ use Rattle.wire.proofs.PartLaws.{inside_fits}
 use Rattle.limits.specs.Every.{every}
 use Rattle.limits.proofs.BoolLaws.{and_false}
 use Rattle.names.specs.Names.{good_name, up_to_bad}
-use Rattle.names.specs.Cursor.{ahead, next_name}
+use Rattle.std.specs.Prelude.{Option, Some, None, Result, Ok, Err}
+use Rattle.std.specs.Option.{is_some, unwrap_or}
+use Rattle.std.specs.Result.{result_unwrap_or}
+use lib.Dec.{eqb}
+use Rattle.limits.specs.declared.Refusal.{Refusal}
+use Rattle.names.specs.Cursor.{ahead, yield, next_name}
+use Rattle.names.specs.Next.{next_told}
+use Rattle.names.specs.declared.Named.{Named}
 use Rattle.names.specs.declared.Cursor.{Cursor}
-use Rattle.names.specs.declared.Next.{Next}
+use Rattle.names.specs.Next.{Next}
 use Rattle.names.proofs.NameLaws.{up_to_bad_all}
+use Rattle.names.proofs.JoinLaws.{good_known}
 use Rattle.names.proofs.CursorLaws.{found, Found, stopped}
 use Rattle.methods.specs.Rows.{number_of, rows}
-use Rattle.common.specs.Common.{has, common, any, is_method, method_in, every_name, common_part, first_of}
+use Rattle.common.specs.Common.{has, common, any, is_method, method_in, every_name, common_part, some_method, some_place}
 
 -- ---- a name that a cursor found
 
@@ -43,26 +51,46 @@ module _ (s : List ℕ) (c : Cursor) (r : Next) (f : Found s c r) where
   pub name_less : length (ahead s r.cursor) < length (ahead s c)
   name_less = omega (arith, ap length f.was, ap length f.left)
 
--- the next name as `part_of` hands it back, found or not, is the first
-pub first_read : (s : List ℕ) (c : Cursor) (r : Next) → r ≡ next_name s c → bytes_at s (inside (length s) r.name) ≡ first_of (names_from s c)
-first_read s c r e = by_test r.found refl
-  where
-    by_test : (t : Bool) → r.found ≡ t → bytes_at s (inside (length s) r.name) ≡ first_of (names_from s c)
-    by_test true h =
-        let f = found s c r e h in
-        name_read s c r f ∙ ap first_of (sym (name_first s c r f))
-    by_test false h =
-        let p = stopped s c r e h in
-        ap (λ (q : Part). bytes_at s (inside (length s) q)) p.2
-        ∙ ap (bytes_at s) (inside_fits (length s) nothing (omega arith))
-        ∙ ap first_of (sym p.1)
+  -- it is not empty
+  pub name_some : r.name.len ≡ 0 → ⊥
+  name_some e = let g = (good_known f.name f.good).0 in omega (arith, ap (λ (p : Part). p.len) f.place)
+
+-- what an answer to a cursor tells of the names that it yields
+module _ (s : List ℕ) (c : Cursor) where
+  pub good_told : (r : Result (Option Named) Refusal) → next_told c r ≡ next_name s c → next_told c (Ok (result_unwrap_or r None)) ≡ yield c (names_from s c)
+  unfolding next_name
+  good_told (Ok (Some n)) e =
+      let f = found s c (next_told c (Ok (Some n))) e refl in
+      e ∙ ap (yield c) f.was ∙ sym (ap (yield c) (name_first s c (next_told c (Ok (Some n))) f))
+  good_told (Ok None) e = sym (ap (yield c) (stopped s c (next_told c (Ok None)) e refl).1)
+  good_told (Err x) e = sym (ap (yield c) (stopped s c (next_told c (Err x)) e refl).1)
+
+  pub good_found : (n : Named) → next_told c (Ok (Some n)) ≡ yield c (names_from s c) → Found s c (next_told c (Ok (Some n)))
+  unfolding next_name
+  good_found n e = by_list (ahead s c) refl e
+    where
+      by_list : (l : List (List ℕ)) → ahead s c ≡ l → next_told c (Ok (Some n)) ≡ yield c (up_to_bad l) → Found s c (next_told c (Ok (Some n)))
+      by_list [] a q = absurd (false≢true (sym (ap (λ (x : Next). x.found) q)))
+      by_list (m ∷ ms) a q = by_test (good_name m) refl q
+        where
+          by_test : (t : Bool) → good_name m ≡ t → next_told c (Ok (Some n)) ≡ yield c (cond t (m ∷ up_to_bad ms) []) → Found s c (next_told c (Ok (Some n)))
+          by_test true g p = found s c (next_told c (Ok (Some n))) (p ∙ sym (ap (yield c) a)) refl
+          by_test false g p = absurd (false≢true (sym (ap (λ (x : Next). x.found) p)))
+
+  pub good_none : next_told c (Ok None) ≡ yield c (names_from s c) → names_from s c ≡ []
+  good_none e = by_list (ahead s c) e
+    where
+      by_list : (l : List (List ℕ)) → next_told c (Ok None) ≡ yield c (up_to_bad l) → up_to_bad l ≡ []
+      by_list [] q = refl
+      by_list (m ∷ ms) q = by_test (good_name m) refl q
+        where
+          by_test : (t : Bool) → good_name m ≡ t → next_told c (Ok None) ≡ yield c (cond t (m ∷ up_to_bad ms) []) → cond t (m ∷ up_to_bad ms) [] ≡ []
+          by_test true g p = absurd (false≢true (ap (λ (x : Next). x.found) p ∙ ap (λ (u : Bool). (cond {A = Next} u (record { number = 0; found = true; name = part c.at (length m); cursor = record { at = c.at + length m + 1; end = c.end } }) (record { number = 19; found = false; name = nothing; cursor = c })).found) g))
+          by_test false g p = refl
 
 -- ---- has, along a cursor
 
 module _ (n s : List ℕ) (c : Cursor) (r : Next) where
-  pub has_none : r ≡ next_name s c → r.found ≡ false → has n (names_from s c) ≡ false
-  has_none e h = ap (has n) (stopped s c r e h).1
-
   pub has_here : (f : Found s c r) → same n f.name ≡ true → has n (names_from s c) ≡ true
   has_here f e = ap (has n) (name_first s c r f) ∙ ap (λ (t : Bool). t || has n (names_from s r.cursor)) e
 
@@ -97,6 +125,49 @@ module _ (server : List (List ℕ)) where
     method_absent e =
         ap (λ (t : Bool). number_of (cond t n (common (is_method any) ns server)))
         (ap (λ (t : Bool). is_method any n && t) e ∙ and_false (is_method any n))
+
+-- ---- a number and a place where there is one
+
+none_some : {A : Type 0} {x : A} → None ≡ Some x → ⊥
+none_some e = absurd (false≢true (ap is_some e))
+
+some_inj : {A : Type 0} {x y : A} → Some x ≡ Some y → x ≡ y
+some_inj {A} {x} {y} e = ap (λ (o : Option A). unwrap_or o x) e
+
+pub some_number : (m : ℕ) → (m ≡ 0 → ⊥) → Some m ≡ some_method m
+some_number m h = rw (ne_eqb m 0 h)
+
+pub some_part : (p : Part) → (p.len ≡ 0 → ⊥) → Some p ≡ some_place p
+some_part p h = rw (ne_eqb p.len 0 h)
+
+-- none is 0, and some is a number above it
+pub number_none : (m : ℕ) → None ≡ some_method m → m ≡ 0
+number_none m = by_test (eqb m 0) refl
+  where
+    by_test : (t : Bool) → eqb m 0 ≡ t → None ≡ cond t None (Some m) → m ≡ 0
+    by_test true e h = eqb-true m 0 e
+    by_test false e h = absurd (none_some h)
+
+pub number_is : (n m : ℕ) → Some n ≡ some_method m → (n ≡ m) × (n ≡ 0 → ⊥)
+number_is n m = by_test (eqb m 0) refl
+  where
+    by_test : (t : Bool) → eqb m 0 ≡ t → Some n ≡ cond t None (Some m) → (n ≡ m) × (n ≡ 0 → ⊥)
+    by_test true e h = absurd (none_some (sym h))
+    by_test false e h = let s = some_inj h in (s, λ z. eqb-false m 0 e (sym s ∙ z))
+
+pub part_none : (p : Part) → None ≡ some_place p → p.len ≡ 0
+part_none p = by_test (eqb p.len 0) refl
+  where
+    by_test : (t : Bool) → eqb p.len 0 ≡ t → None ≡ cond t None (Some p) → p.len ≡ 0
+    by_test true e h = eqb-true p.len 0 e
+    by_test false e h = absurd (none_some h)
+
+pub part_is : (q p : Part) → Some q ≡ some_place p → (q ≡ p) × (q.len ≡ 0 → ⊥)
+part_is q p = by_test (eqb p.len 0) refl
+  where
+    by_test : (t : Bool) → eqb p.len 0 ≡ t → Some q ≡ cond t None (Some p) → (q ≡ p) × (q.len ≡ 0 → ⊥)
+    by_test true e h = absurd (none_some (sym h))
+    by_test false e h = let s = some_inj h in (s, λ z. eqb-false p.len 0 e (sym (ap (λ (x : Part). x.len) s) ∙ z))
 
 -- ---- common_part
 

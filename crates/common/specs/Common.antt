@@ -1,6 +1,6 @@
 -- What a client's list of names has in common with a server's: the first of the client's that counts and stands in the server's.
 -- Over lists of names; nothing here knows of payloads. Assumes nothing.
-use Rattle.std.specs.Prelude.{ℕ, ◌+◌, List, [], ◌∷◌, Bool, true, false, cond, ◌&&◌, ◌||◌, length, ltb}
+use Rattle.std.specs.Prelude.{ℕ, ◌+◌, List, [], ◌∷◌, Bool, true, false, cond, ◌&&◌, ◌||◌, Option, Some, None, length, ltb, eqb}
 use Rattle.buffers.specs.Bytes.{same}
 use Rattle.wire.specs.Parts.{part, nothing}
 use Rattle.wire.specs.declared.Part.{Part}
@@ -28,6 +28,10 @@ is_method allowed n = ltb 0 (number_of n) && allowed (number_of n)
 unfoldable pub method_in : (ℕ → Bool) → List (List ℕ) → List (List ℕ) → ℕ
 method_in allowed client server = number_of (common (is_method allowed) client server)
 
+-- a method's number where there is one: 0 is none
+abbrev pub some_method : ℕ → Option ℕ
+some_method m = cond (eqb m 0) None (Some m)
+
 -- every name counts for the host key
 abbrev pub every_name : List ℕ → Bool
 every_name n = true
@@ -36,6 +40,10 @@ every_name n = true
 abbrev pub common_part : ℕ → List (List ℕ) → List (List ℕ) → Part
 common_part at [] server = nothing
 common_part at (n ∷ ns) server = cond (has n server) (part at (length n)) (common_part (at + length n + 1) ns server)
+
+-- a name's place where there is one: no name is empty
+abbrev pub some_place : Part → Option Part
+some_place p = cond (eqb p.len 0) None (Some p)
 
 -- the first name of a list; the empty name with none
 abbrev pub first_of : List (List ℕ) → List ℕ

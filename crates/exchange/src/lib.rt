@@ -1,9 +1,12 @@
-// One key exchange, as a record that goes in by value and comes back: its types. What its steps do is defined in specs/; the code
-// of the steps stands in the crates above.
-#![tactic(auto)]
+// One key exchange, as a record that goes in by value and comes back: its types, and whether a number is a method's or a role's. What its steps do is
+// defined in specs/; the code of the steps stands in the crates above.
+#![tactic(auto, unfolding(crate::specs::Causes::method_ok, crate::specs::Causes::role_ok))]
+
+ghost use Rattle.std.specs.Prelude.{◌≡◌};
+ghost use Rattle.exchange.specs.Causes.{method_ok, role_ok};
 
 // How far an exchange has come.
-#[derive(Clone, Copy)]
+#[derive(Clone, Copy, PartialEq)]
 pub enum Stage {
     // V_C, V_S, I_C and I_S are in the room.
     Started,
@@ -22,7 +25,7 @@ pub enum Stage {
 }
 
 // The lengths of the fields in the room; 0 where a field is not there.
-#[derive(Clone, Copy)]
+#[derive(Clone, Copy, Default)]
 pub struct Lengths {
     pub vc: usize,
     pub vs: usize,
@@ -34,7 +37,8 @@ pub struct Lengths {
 }
 
 // What lasts over the exchanges of one connection: the session identifier, which is the first H of a completed exchange, its length, and how many
-// exchanges were completed. All zeros until the first is.
+// exchanges were completed. All zeros until the first is. The length stands beside it: memory is fixed, so there is
+// no heap for a Vec, and demand 3's `session_is` speaks of both.
 #[derive(Clone, Copy)]
 pub struct Session {
     pub id: [u8; limits::H_SIZE],
@@ -43,7 +47,8 @@ pub struct Session {
 }
 
 // An exchange. Role 1 is the client's, 2 the server's. The K record and H are all zeros until the secret step, after a peer's fault, and where an
-// exchange begins again.
+// exchange begins again. Role and method stay numbers: they may be any byte of a host's, and values' `load` and by_value's `step_number` promise their
+// answer on each.
 #[derive(Clone, Copy)]
 pub struct Exchange {
     pub stage: Stage,
@@ -55,7 +60,8 @@ pub struct Exchange {
     pub session: Session,
 }
 
-// What the classical primitive gave: nothing, or so many bytes, lent beside it.
+// What the classical primitive gave: nothing, or so many bytes, lent beside it. No Option: `Call` of specs/Steps.antt, which demand 3 speaks of, and
+// worked's examples name it and its variants.
 #[derive(Clone, Copy)]
 pub enum Classical {
     Failed,
@@ -71,7 +77,7 @@ pub enum Kem {
 }
 
 // What a step answers: its number, its counts (the second only at the signature step), the exchange as it now is, and where a payload
-// that is answered 12 or 13 breaks.
+// that is answered 12 or 13 breaks. A number beside them, and no Result: the exchange comes back on a refusal too, and demand 3's `History` speaks of both.
 #[derive(Clone, Copy)]
 pub struct Step {
     pub number: u8,
@@ -86,4 +92,18 @@ pub struct Step {
 pub struct SecretStep {
     pub step: Step,
     pub h: [u8; limits::H_SIZE],
+}
+
+// Whether a number is a method's.
+pub fn is_method(method: u8) -> bool
+    ensures { result ≡ method_ok method }
+{
+    (1..=limits::METHOD_LAST).contains(&method)
+}
+
+// Whether a number is a role's.
+pub fn is_role(role: u8) -> bool
+    ensures { result ≡ role_ok role }
+{
+    (limits::CLIENT..=limits::SERVER).contains(&role)
 }

@@ -4,11 +4,12 @@
 
 ghost use Rattle.std.specs.Prelude.{◌≡◌, length};
 ghost use Rattle.exchange.specs.Steps.{init, reply, secret as secret_step, verdict as verdict_step, number, answered, secret_answered, room_after, output_after};
-ghost use Rattle.in_place.specs.InPlace.{in_place_of, secret_in_place, left};
+ghost use Rattle.in_place.specs.InPlace.{counts_of, in_place_of, secret_counts_of, secret_in_place, left};
 
 use exchange::{Classical, Exchange, Kem, SecretStep, Step};
 
-// What a step in place answers: its number, its counts, and where a payload that is answered 12 or 13 breaks.
+// What a step in place answers: its number, its counts, and where a payload that is answered 12 or 13 breaks. The number stands beside them, since by
+// 9.14.1 of the specification a step in place answers the same as by value.
 #[derive(Clone, Copy)]
 pub struct Counts {
     pub number: u8,
@@ -26,19 +27,57 @@ pub struct SecretCounts {
     pub h: [u8; limits::H_SIZE],
 }
 
-// Server, INIT read, in place.
+impl From<Step> for Counts {
+    ghost from_gives = { λ r c. c ≡ counts_of r };
+
+    fn from(r: Step) -> Counts {
+        Counts {
+            number: r.number,
+            count: r.count,
+            second: r.second,
+            position: r.position,
+        }
+    }
+}
+
+impl From<SecretStep> for SecretCounts {
+    ghost from_gives = { λ r c. c ≡ secret_counts_of r };
+
+    fn from(r: SecretStep) -> SecretCounts {
+        let h = r.h;
+        SecretCounts {
+            number: r.step.number,
+            count: r.step.count,
+            second: r.step.second,
+            h,
+        }
+    }
+}
+
+impl Counts {
+    // The step's answer that they and an exchange are.
+    fn with(self, exchange: Exchange) -> Step
+        ensures { (counts_of result ≡ self) × (result.exchange ≡ exchange) }
+    {
+        Step {
+            number: self.number,
+            count: self.count,
+            second: self.second,
+            exchange,
+            position: self.position,
+        }
+    }
+}
+
+// Server, INIT read, in place. It and REPLY's are alike but for the step that they call: one function over the step would say that step's contract again,
+// and be no plainer.
 pub fn read_init_in(e: &mut Exchange, room: &mut [u8], payload: &[u8]) -> Counts
     ensures { let q = init payload.now in
         (result ≡ in_place_of e.old room.old q) × (e.new ≡ left e.old room.old q) × (room.new ≡ room_after e.old room.old q) }
 {
     let r = server::read_init(*e, room, payload);
     *e = r.exchange;
-    Counts {
-        number: r.number,
-        count: r.count,
-        second: r.second,
-        position: r.position,
-    }
+    Counts::from(r)
 }
 
 // Client, REPLY read, in place.
@@ -48,15 +87,10 @@ pub fn read_reply_in(e: &mut Exchange, room: &mut [u8], payload: &[u8]) -> Count
 {
     let r = client::read_reply(*e, room, payload);
     *e = r.exchange;
-    Counts {
-        number: r.number,
-        count: r.count,
-        second: r.second,
-        position: r.position,
-    }
+    Counts::from(r)
 }
 
-// Both roles, the secret, in place.
+// Both roles, the secret, in place. Its parameters, here and on a copy, come one by one: they are those of the step by value.
 pub fn take_secret_in(
     e: &mut Exchange,
     room: &mut [u8],
@@ -72,13 +106,7 @@ pub fn take_secret_in(
 {
     let r = steps::take_secret(*e, room, cl, x, kem, k_pq, ks, s);
     *e = r.step.exchange;
-    let h = r.h;
-    SecretCounts {
-        number: r.step.number,
-        count: r.step.count,
-        second: r.step.second,
-        h,
-    }
+    SecretCounts::from(r)
 }
 
 // Client, the verdict, in place.
@@ -94,12 +122,7 @@ pub fn verdict_in(
 {
     let r = client::verdict(*e, room, signature, host_key, k_out);
     *e = r.exchange;
-    Counts {
-        number: r.number,
-        count: r.count,
-        second: r.second,
-        position: r.position,
-    }
+    Counts::from(r)
 }
 
 // The steps in place, each lent a local copy of the exchange: their parameters are plain, so a caller needs no walk.
@@ -109,13 +132,7 @@ pub fn read_init_on_copy(e: Exchange, room: &mut [u8], payload: &[u8]) -> Step
 {
     let mut y = e;
     let a = read_init_in(&mut y, room, payload);
-    Step {
-        number: a.number,
-        count: a.count,
-        second: a.second,
-        exchange: y,
-        position: a.position,
-    }
+    a.with(y)
 }
 
 pub fn read_reply_on_copy(e: Exchange, room: &mut [u8], payload: &[u8]) -> Step
@@ -124,13 +141,7 @@ pub fn read_reply_on_copy(e: Exchange, room: &mut [u8], payload: &[u8]) -> Step
 {
     let mut y = e;
     let a = read_reply_in(&mut y, room, payload);
-    Step {
-        number: a.number,
-        count: a.count,
-        second: a.second,
-        exchange: y,
-        position: a.position,
-    }
+    a.with(y)
 }
 
 pub fn take_secret_on_copy(
@@ -173,11 +184,5 @@ pub fn verdict_on_copy(
 {
     let mut y = e;
     let a = verdict_in(&mut y, room, signature, host_key, k_out);
-    Step {
-        number: a.number,
-        count: a.count,
-        second: a.second,
-        exchange: y,
-        position: a.position,
-    }
+    a.with(y)
 }

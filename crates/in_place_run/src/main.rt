@@ -3,37 +3,14 @@
 // room, and for the secret H. What it prints is held to the file `stdout`, which tests/expect_in_place.py computes from the capture.
 #![tactic(auto)]
 
-ghost use Rattle.std.specs.Prelude.{◌≤◌, length, IfOk};
-
+use console::Hex;
 use exchange::{Classical, Exchange, Kem, Step};
 use std::io;
-use std::io::Read;
 use wire::Part;
-
-fn text(rt: &impl Print, s: &[u8]) -> io::Result<()> {
-    rt.write_all(s)
-}
-
-fn decimal(rt: &impl Print, n: usize) -> io::Result<()> {
-    print!(rt; "{n}")
-}
-
-fn item(rt: &impl Print, n: usize) -> io::Result<()> {
-    text(rt, b" ")?;
-    decimal(rt, n)
-}
-
-fn hex(rt: &impl Print, b: u8) -> io::Result<()> {
-    print!(rt; "{b:02x}")
-}
 
 // H, with the zeros after it.
 fn print_h(rt: &impl Print, h: &[u8; limits::H_SIZE]) -> io::Result<()> {
-    text(rt, b"H ")?;
-    for b in h {
-        hex(rt, *b)?;
-    }
-    text(rt, b"\n")
+    println!(rt; "H {}", Hex(h))
 }
 
 fn mix(h: usize, b: u8) -> usize {
@@ -42,21 +19,18 @@ fn mix(h: usize, b: u8) -> usize {
 
 // A checksum over every byte and the length.
 fn sum(s: &[u8]) -> usize {
-    let mut h = 0;
-    for b in s {
-        h = mix(h, *b);
-    }
-    h
+    s.iter().fold(0, |h, b| mix(h, *b))
 }
 
 // Prints a call's answer, and hands on its exchange.
-fn printed(rt: &impl Print, name: &[u8], st: Step, room: &[u8]) -> io::Result<Exchange> {
-    text(rt, name)?;
-    item(rt, st.number as usize)?;
-    item(rt, st.count)?;
-    item(rt, st.position)?;
-    item(rt, sum(room))?;
-    text(rt, b"\n")?;
+fn printed(rt: &impl Print, name: &str, st: Step, room: &[u8]) -> io::Result<Exchange> {
+    println!(rt;
+        "{name} {} {} {} {}",
+        st.number,
+        st.count,
+        st.position,
+        sum(room)
+    )?;
     Ok(st.exchange)
 }
 
@@ -85,15 +59,7 @@ const INIT: usize = 9;
 const REPLY: usize = 10;
 
 fn field(rec: &[u8], i: usize) -> &[u8] {
-    let w = wire::skip_strings(rec, 0, i);
-    let f = wire::field_at(rec, w.place);
-    wire::part_of(
-        rec,
-        Part {
-            start: f.start,
-            len: f.len,
-        },
-    )
+    wire::part_of(rec, wire::string_part(rec, 0, i))
 }
 
 // ---- the steps
@@ -119,12 +85,12 @@ fn own_c(e: Exchange, rec: &[u8], room: &mut [u8]) -> Exchange {
 
 fn init(rt: &impl Print, e: Exchange, payload: &[u8], room: &mut [u8]) -> io::Result<Exchange> {
     let st = in_place::read_init_on_copy(e, room, payload);
-    printed(rt, b"INIT", st, room)
+    printed(rt, "INIT", st, room)
 }
 
 fn reply(rt: &impl Print, e: Exchange, payload: &[u8], room: &mut [u8]) -> io::Result<Exchange> {
     let st = in_place::read_reply_on_copy(e, room, payload);
-    printed(rt, b"REPLY", st, room)
+    printed(rt, "REPLY", st, room)
 }
 
 fn secret(rt: &impl Print, e: Exchange, rec: &[u8], room: &mut [u8]) -> io::Result<Exchange> {
@@ -141,7 +107,7 @@ fn secret(rt: &impl Print, e: Exchange, rec: &[u8], room: &mut [u8]) -> io::Resu
     );
     let step = st.step;
     let h = st.h;
-    let f = printed(rt, b"secret", step, room)?;
+    let f = printed(rt, "secret", step, room)?;
     print_h(rt, &h)?;
     Ok(f)
 }
@@ -149,10 +115,8 @@ fn secret(rt: &impl Print, e: Exchange, rec: &[u8], room: &mut [u8]) -> io::Resu
 fn verdict(rt: &impl Print, e: Exchange, room: &mut [u8]) -> io::Result<()> {
     let mut k = [0x55u8; limits::K_SIZE];
     let st = in_place::verdict_on_copy(e, room, true, true, &mut k);
-    printed(rt, b"verdict", st, room)?;
-    text(rt, b"K")?;
-    item(rt, sum(&k))?;
-    text(rt, b"\n")
+    printed(rt, "verdict", st, room)?;
+    println!(rt; "K {}", sum(&k))
 }
 
 // ---- the exchange
@@ -164,14 +128,14 @@ fn client_reads(rt: &impl Print, e: Exchange, rec: &[u8], room: &mut [u8]) -> io
 }
 
 fn client(rt: &impl Print, rec: &[u8], room: &mut [u8]) -> io::Result<()> {
-    let a = own_c(start(1, rec, room), rec, room);
+    let a = own_c(start(limits::CLIENT, rec, room), rec, room);
     let b = secret(rt, client_reads(rt, a, rec, room)?, rec, room)?;
     verdict(rt, b, room)
 }
 
 // A REPLY for an INIT is the peer's fault, and so is an INIT that is cut: both end the exchange.
 fn server(rt: &impl Print, rec: &[u8], first: &[u8], room: &mut [u8]) -> io::Result<()> {
-    let a = init(rt, start(2, rec, room), first, room)?;
+    let a = init(rt, start(limits::SERVER, rec, room), first, room)?;
     secret(rt, a, rec, room)?;
     Ok(())
 }
@@ -181,27 +145,10 @@ fn cut(payload: &[u8]) -> &[u8] {
     wire::part_of(payload, Part { start: 0, len: 40 })
 }
 
-// Reads until buf is full or the input ends: how many bytes it put at the start of buf.
-fn read_full(rt: &impl Input, buf: &mut [u8]) -> io::Result<usize>
-    ensures { IfOk result (λ n. n ≤ length buf.new) }
-{
-    let mut input = rt.reader();
-    let mut done = 0;
-    // A read that gives nothing is the last: as many reads as buf has bytes are enough.
-    for _ in 0..buf.len() {
-        let n = input.read(&mut buf[done..])?;
-        if n == 0 {
-            break;
-        }
-        done += n;
-    }
-    Ok(done)
-}
-
 fn main(rt: HostRuntime) -> io::Result<()> {
     let mut space = [0u8; 65536];
     let mut room = [0x55u8; limits::ROOM_LEAST];
-    let n = read_full(&rt, &mut space)?;
+    let n = console::read_full(&rt, &mut space)?;
     let rec = &space[..n];
     client(&rt, rec, &mut room)?;
     server(&rt, rec, field(rec, INIT), &mut room)?;

@@ -1,23 +1,20 @@
 // The causes in what a start or a step is handed (SPECIFICATION 9.5 to 9.11), but for the secret step's.
-#![tactic(auto)]
+#![tactic(auto, unfolding(exchange::specs::Causes::kexinit_ok, exchange::specs::Causes::start_cause, exchange::specs::Causes::own_c_cause, exchange::specs::Causes::sign_cause, exchange::specs::Causes::verdict_cause, wire::specs::Causes::cause_if, wire::specs::Causes::cause_unless))]
 
-ghost use Rattle.std.specs.Prelude.{◌≡◌, length};
+ghost use Rattle.std.specs.Prelude.{◌≡◌};
+ghost use Rattle.limits.specs.Refusals.{told};
 ghost use Rattle.exchange.specs.Causes.{kexinit_ok, start_cause, own_c_cause, sign_cause, verdict_cause};
+
+use limits::Refusal;
 
 // Whether i may stand as a KEXINIT payload in the hash input: its length, and byte 20 first.
 pub fn kexinit_ok(i: &[u8]) -> bool
     ensures { result ≡ kexinit_ok i.now }
 {
-    if i.len() < 1 {
-        return false;
-    }
-    if limits::KEXINIT_MOST < i.len() {
-        return false;
-    }
-    i[0] == 20
+    i.len() <= limits::KEXINIT_MOST && i.first() == Some(&20)
 }
 
-// The first cause against a start: 2, 3, 4.
+// The first cause against a start: 2, 3, 4. The fields come one by one, as the C interface hands them in.
 pub fn start_cause(
     role: u8,
     method: u8,
@@ -26,81 +23,60 @@ pub fn start_cause(
     ic: &[u8],
     is: &[u8],
     room: usize,
-) -> u8
-    ensures { result ≡ start_cause role method vc.now vs.now ic.now is.now room }
+) -> Result<(), Refusal>
+    ensures { told result ≡ start_cause role method vc.now vs.now ic.now is.now room }
 {
-    if method < 1 {
-        return 2;
-    }
-    if limits::METHOD_LAST < method {
-        return 2;
-    }
-    if role < limits::CLIENT {
-        return 2;
-    }
-    if limits::SERVER < role {
-        return 2;
+    if !exchange::is_method(method) || !exchange::is_role(role) {
+        return Err(Refusal::NoMethod);
     }
     if room < limits::ROOM_LEAST {
-        return 3;
+        return Err(Refusal::RoomTooShort);
     }
-    if !judge_versions::version_ok(vc) {
-        return 4;
+    if !judge_versions::version_ok(vc) || !judge_versions::version_ok(vs) {
+        return Err(Refusal::BadInput);
     }
-    if !judge_versions::version_ok(vs) {
-        return 4;
+    if !kexinit_ok(ic) || !kexinit_ok(is) {
+        return Err(Refusal::BadInput);
     }
-    if !kexinit_ok(ic) {
-        return 4;
-    }
-    if !kexinit_ok(is) {
-        return 4;
-    }
-    0
+    Ok(())
 }
 
 // The first cause against own C: 4, 5.
-pub fn own_c_cause(method: u8, c: &[u8], out: usize) -> u8
-    ensures { result ≡ own_c_cause method c.now out }
+pub fn own_c_cause(method: u8, c: &[u8], out: usize) -> Result<(), Refusal>
+    ensures { told result ≡ own_c_cause method c.now out }
 {
     let shape = methods::c_shape(method);
     if !methods::has_form(shape, c) {
-        return 4;
+        return Err(Refusal::BadInput);
     }
     if out < limits::INIT_LEAST {
-        return 5;
+        return Err(Refusal::OutputTooShort);
     }
-    0
+    Ok(())
 }
 
 // The first cause against the signature step: 4, 5.
-pub fn sign_cause(signature: &[u8], out: usize, k_out: usize) -> u8
-    ensures { result ≡ sign_cause signature.now out k_out }
+pub fn sign_cause(signature: &[u8], out: usize, k_out: usize) -> Result<(), Refusal>
+    ensures { told result ≡ sign_cause signature.now out k_out }
 {
     if !limits::in_range(1, limits::BLOB_MOST, signature.len()) {
-        return 4;
+        return Err(Refusal::BadInput);
     }
-    if out < limits::REPLY_LEAST {
-        return 5;
+    if out < limits::REPLY_LEAST || k_out < limits::K_SIZE {
+        return Err(Refusal::OutputTooShort);
     }
-    if k_out < limits::K_SIZE {
-        return 5;
-    }
-    0
+    Ok(())
 }
 
 // The first cause against the verdict: 5, 18.
-pub fn verdict_cause(signature: bool, host_key: bool, k_out: usize) -> u8
-    ensures { result ≡ verdict_cause signature host_key k_out }
+pub fn verdict_cause(signature: bool, host_key: bool, k_out: usize) -> Result<(), Refusal>
+    ensures { told result ≡ verdict_cause signature host_key k_out }
 {
     if k_out < limits::K_SIZE {
-        return 5;
+        return Err(Refusal::OutputTooShort);
     }
-    if !signature {
-        return 18;
+    if !signature || !host_key {
+        return Err(Refusal::VerdictNo);
     }
-    if !host_key {
-        return 18;
-    }
-    0
+    Ok(())
 }

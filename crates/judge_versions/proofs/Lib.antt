@@ -1,2 +1,1 @@
 pub mod PlainLaws
-pub mod VersionLaws

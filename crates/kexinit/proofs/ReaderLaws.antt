@@ -25,9 +25,7 @@ use Rattle.messages.proofs.CutLaws.{cut_found, left_over_found, position_told}
 use Rattle.names.specs.Cursor.{exhausted, cursor_of, ahead}
 use Rattle.names.specs.declared.Cursor.{Cursor}
 use Rattle.names.proofs.CursorLaws.{ahead_list}
-use Rattle.kexinit.specs.Reader.{kexinit_layout, kexinit_cause, boolean_at, list_part, list_names, head_at, head_refused, head_by, open_head, open_cause, open_list}
-use Rattle.kexinit.specs.declared.Head.{Head}
-use Rattle.kexinit.specs.declared.Opened.{Opened}
+use Rattle.kexinit.specs.Reader.{kexinit_layout, kexinit_cause, boolean_at, list_part, list_names, head_at, head_refused, head_by, open_head, open_cause, open_list, Head, Opened}
 
 -- KEXINIT's layout, as a reader meets it
 kexinit_ordered : Ordered kexinit_layout

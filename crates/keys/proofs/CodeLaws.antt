@@ -1,12 +1,14 @@
 -- Laws that the code cites: bytes laid as far as an output goes, and how much of a key stands there after each block. Assumes nothing.
-use Prim.Native.Nat.{ℕ, zero, suc, ◌+◌, ◌-◌, ◌*◌, ◌≤◌, ◌<◌}
+use Prim.Native.Nat.{ℕ, zero, suc, min, ◌+◌, ◌-◌, ◌*◌, ◌≤◌, ◌<◌}
 use mathlib.Core.Path.{◌≡◌, refl, sym, ap, ◌∙◌}
 use mathlib.Core.List.{List, [], ◌∷◌, ◌++◌, append_assoc, append-nil}
-use mathlib.Core.Bool.{true}
+use mathlib.Core.Bool.{Bool, true, false}
 use native.Mathlib.Omega.{arith}
 use native.Mathlib.Nat.{zero-mul, suc-mul}
 use lib.ListN.{length, take, drop, length-append, length-drop}
 use lib.Seq.{length-take-le, take_all, take_at, take-nil, take-append-le, take-append-add, drop-length}
+use lib.Dec.{ltb}
+use borrow.Author.Tests.{ltb-true, ltb-false}
 use Rattle.limits.specs.Limits.{h_size}
 use Rattle.buffers.specs.Bytes.{zeros, over, laid}
 use Rattle.buffers.proofs.ByteLaws.{laid_fits, length_over}
@@ -27,23 +29,21 @@ take_comm (suc m) (suc n) (x ∷ l) = ap (λ (t : List ℕ). x ∷ t) (take_comm
 
 module _ (l : List ℕ) (at : ℕ) (b : List ℕ) (h : at ≤ length l) where
   -- whole
-  pub truncated_whole : length b ≤ length l - at → laid l at b ≡ take (length l) (over l at b)
+  truncated_whole : length b ≤ length l - at → laid l at b ≡ take (length l) (over l at b)
   truncated_whole e =
       let f : at + length b ≤ length l = omega arith in
       laid_fits l at b f ∙ sym (take_all (length l) (over l at b) (omega (arith, length_over l at b f)))
 
   -- its beginning
-  pub truncated_part : (n : ℕ) → n ≡ length l - at → n < length b → laid l at (take (n - 0) b) ≡ take (length l) (over l at b)
+  truncated_part : (n : ℕ) → n ≡ length l - at → n < length b → laid l at (take n b) ≡ take (length l) (over l at b)
   unfolding over
   truncated_part n e less =
-      let z : n - 0 ≡ n = omega arith in
       let t : List ℕ = take at l in
       let s : length (take n b) ≡ n = length-take-le n b (omega arith) in
       let i : length t ≡ at = length-take-le at l h in
       let d : at + length (take n b) ≡ length l = omega arith in
       let j : length l ≡ length t + n = omega arith in
-      ap (λ (m : ℕ). laid l at (take m b)) z
-      ∙ laid_fits l at (take n b) (omega arith)
+      laid_fits l at (take n b) (omega arith)
       ∙ ap (λ (m : ℕ). t ++ take n b ++ drop m l) d
       ∙ ap (λ (r : List ℕ). t ++ take n b ++ r) (drop-length l)
       ∙ append-nil (t ++ take n b)
@@ -51,6 +51,16 @@ module _ (l : List ℕ) (at : ℕ) (b : List ℕ) (h : at ≤ length l) where
       ∙ sym (take-append-add t (b ++ drop (at + length b) l) n)
       ∙ ap (λ (m : ℕ). take m (t ++ (b ++ drop (at + length b) l))) (sym j)
       ∙ ap (take (length l)) (sym (append_assoc t b (drop (at + length b) l)))
+
+  -- either, by the shorter of the two
+  pub truncated : (n : ℕ) → n ≡ min (length b) (length l - at) → laid l at (take n b) ≡ take (length l) (over l at b)
+  truncated n e = by_test (ltb (length l - at) (length b)) refl
+    where
+      by_test : (t : Bool) → ltb (length l - at) (length b) ≡ t → laid l at (take n b) ≡ take (length l) (over l at b)
+      by_test true w = let k = ltb-true (length l - at) (length b) w in truncated_part n (omega arith) (omega arith)
+      by_test false w =
+          let k = ltb-false (length l - at) (length b) w in
+          ap (laid l at) (take_all n b (omega arith)) ∙ truncated_whole k
 
   length_truncated : length (take (length l) (over l at b)) ≡ length l
   unfolding over

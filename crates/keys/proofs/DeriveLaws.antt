@@ -1,17 +1,17 @@
--- Deriving from an exchange in lent bytes: its number, and what it reads of a complete one. Assumes nothing.
-use Prim.Native.Nat.{ℕ, ◌+◌, ◌≤◌, ◌<◌}
+-- Deriving from an exchange in lent bytes: what it reads of a complete one. Assumes nothing.
+use Prim.Native.Nat.{ℕ, ◌+◌, ◌≤◌}
 use mathlib.Core.Path.{◌≡◌, refl, sym, ap, ◌∙◌}
 use mathlib.Core.List.{List, []}
 use mathlib.Core.Bool.{Bool, true, false, cond, ◌&&◌, false≢true}
 use native.Mathlib.Omega.{arith}
 use lib.ListN.{length, get_or, take, drop, length-drop, length-take}
 use lib.Dec.{leb, ltb}
-use borrow.Author.Tests.{leb-true, eqb-true, ltb-false, lt-ltb, le-ltb}
+use borrow.Author.Tests.{leb-true, eqb-true, ltb-false}
 use Rattle.limits.specs.Limits.{k_size, h_size, key_most, letter_first, letter_last}
 use Rattle.limits.specs.Range.{within}
 use Rattle.limits.proofs.BoolLaws.{and_true, both}
 use Rattle.wire.specs.Strings.{number32, number_at}
-use Rattle.wire.proofs.CauseLaws.{if_holds, if_fails, if_none, unless_holds, unless_fails, unless_none}
+use Rattle.wire.proofs.CauseLaws.{if_none, unless_none}
 use Rattle.wire.proofs.StringLaws.{number_at_lem}
 use Rattle.sha_words.specs.Constants.{known}
 use Rattle.methods.specs.Rows.{row_of, k_most}
@@ -24,56 +24,10 @@ use Rattle.exchange.specs.declared.Stage.TheVariants.{Started, CSent, InitRead, 
 use Rattle.exchange.proofs.CauseFacts.{method_row}
 use Rattle.exchange.proofs.DueLaws.{completed_known, session_known_lem, id_most}
 use Rattle.stored.specs.Stored.{fits, number16, decoded, by_fit, k_kept, h_kept, id_len_told, id_kept}
-use Rattle.stored.proofs.StoredLaws.{method_read, size_taken, fits_known, fit_taken, fit_left}
+use Rattle.stored.proofs.StoredLaws.{method_read, size_taken, fits_known}
 use Rattle.keys.specs.Derived.{derive_cause, recorded_k, recorded_h, identifier}
 
--- ---- the number
-
-module _ (b : List ℕ) (letter len out : ℕ) where
-  pub incomplete : (fits b && completed (decoded b)) ≡ false → 1 ≡ by_fit b (derive_cause (decoded b) letter len out) 1
-  unfolding derive_cause
-  incomplete h = by_fit_lem (fits b) refl h
-    where
-      by_fit_lem : (t : Bool) → fits b ≡ t → (t && completed (decoded b)) ≡ false → 1 ≡ by_fit b (derive_cause (decoded b) letter len out) 1
-      by_fit_lem true f h = sym (unless_fails (completed (decoded b)) 1 _ h) ∙ fit_taken b (derive_cause (decoded b) letter len out) 1 f
-      by_fit_lem false f h = fit_left b (derive_cause (decoded b) letter len out) 1 f
-
-  module _ (c : (fits b && completed (decoded b)) ≡ true) where
-    -- on a complete exchange the arguments are judged
-    judged : (n : ℕ) → n ≡ derive_cause (decoded b) letter len out → n ≡ by_fit b (derive_cause (decoded b) letter len out) 1
-    judged n h = h ∙ fit_taken b (derive_cause (decoded b) letter len out) 1 (and_true (fits b) (completed (decoded b)) c).0
-
-    pub bad_letter : within letter_first letter_last letter ≡ false → 4 ≡ by_fit b (derive_cause (decoded b) letter len out) 1
-    unfolding derive_cause
-    bad_letter h =
-        judged 4
-        (sym (unless_holds (completed (decoded b)) 1 _ (and_true (fits b) (completed (decoded b)) c).1
-        ∙ unless_fails (within letter_first letter_last letter && within 1 key_most len) 4 _ (ap (λ (t : Bool). t && within 1 key_most len) h)))
-
-    module _ (a : within letter_first letter_last letter ≡ true) where
-      pub bad_length : within 1 key_most len ≡ false → 4 ≡ by_fit b (derive_cause (decoded b) letter len out) 1
-      unfolding derive_cause
-      bad_length h =
-          judged 4
-          (sym (unless_holds (completed (decoded b)) 1 _ (and_true (fits b) (completed (decoded b)) c).1
-          ∙ unless_fails (within letter_first letter_last letter && within 1 key_most len) 4 _ (λ i. a i && h i)))
-
-      module _ (l : within 1 key_most len ≡ true) where
-        pub short_output : out < len → 5 ≡ by_fit b (derive_cause (decoded b) letter len out) 1
-        unfolding derive_cause
-        short_output h =
-            judged 5
-            (sym (unless_holds (completed (decoded b)) 1 _ (and_true (fits b) (completed (decoded b)) c).1
-            ∙ unless_holds (within letter_first letter_last letter && within 1 key_most len) 4 _ (λ i. a i && l i)
-            ∙ if_holds (ltb out len) 5 0 (lt-ltb out len h)))
-
-        pub derives : len ≤ out → 0 ≡ by_fit b (derive_cause (decoded b) letter len out) 1
-        unfolding derive_cause
-        derives h =
-            judged 0
-            (sym (unless_holds (completed (decoded b)) 1 _ (and_true (fits b) (completed (decoded b)) c).1
-            ∙ unless_holds (within letter_first letter_last letter && within 1 key_most len) 4 _ (λ i. a i && l i)
-            ∙ if_fails (ltb out len) 5 0 (le-ltb out len h)))
+-- ---- what an accepted call knows
 
 -- where there is none, the exchange is complete and what was fed is right
 pub record Derives (b : List ℕ) (letter len out : ℕ) : Type 0 where

@@ -1,4 +1,4 @@
--- Where C joins the room, K as it is written, and sums of sizes. Assumes nothing.
+-- Where C joins the room, and K as it is written. Assumes nothing.
 use Rattle.std.proofs.Common.{◌≡◌, ℕ, ◌+◌, ◌≤◌, List, length, ap, ◌∙◌, subst, arith}
 use Rattle.limits.specs.Limits.{k_size, room_least}
 use Rattle.buffers.specs.Bytes.{onto, laid}
@@ -7,7 +7,7 @@ use Rattle.wire.specs.Strings.{number_at}
 use Rattle.wire.proofs.StringLaws.{number_at_lem}
 use Rattle.methods.specs.Rows.{row_of}
 use Rattle.methods.proofs.FormLaws.{length_most_lem}
-use Rattle.transcript.specs.Fields.{field, size_sum}
+use Rattle.transcript.specs.Fields.{field}
 use Rattle.transcript.proofs.RoomLaws.{length_field, field_length_most}
 use Rattle.transcript.proofs.FieldLaws.{field_length_none}
 use Rattle.exchange.specs.Record.{k_length}
@@ -56,12 +56,3 @@ k_laid out k l h = laid_fits out 0 k (omega arith) ∙ over_zero out k
 -- its length stands in its first four bytes
 pub k_length_lem : (k : List ℕ) (n : ℕ) → length k ≡ k_size → n ≡ number_at k 0 → 4 + n ≡ k_length k
 k_length_lem k n l e = ap (λ (m : ℕ). 4 + m) (e ∙ number_at_lem k 0 (omega arith))
-
--- ---- sums of sizes, one behind another
-
-pub sums : (a b c d a' b' c' d' r₁ r₂ r₃ : ℕ) → a ≡ a' → b ≡ b' → r₁ ≡ size_sum a b → c ≡ c' → r₂ ≡ size_sum r₁ c → d ≡ d' → r₃ ≡ size_sum r₂ d
-    → r₃ ≡ size_sum (size_sum (size_sum a' b') c') d'
-sums a b c d a' b' c' d' r₁ r₂ r₃ e f g h k l m =
-    let x = g ∙ (λ i. size_sum (e i) (f i)) in
-    let y = k ∙ (λ i. size_sum (x i) (h i)) in
-    m ∙ (λ i. size_sum (y i) (l i))

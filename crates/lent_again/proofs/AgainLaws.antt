@@ -1,23 +1,21 @@
--- The causes against beginning again, a law for each `return`; the room with the new I_C and I_S, and the exchange's bytes. Assumes nothing.
-use Prim.Native.Nat.{ℕ, ◌+◌, ◌≤◌, ◌<◌}
+-- What the bytes of a complete exchange tell; the room with the new I_C and I_S, and the exchange's bytes. Assumes nothing.
+use Prim.Native.Nat.{ℕ, ◌+◌, ◌≤◌}
 use mathlib.Core.Path.{◌≡◌, refl, sym, ap, ◌∙◌}
 use mathlib.Core.List.{List, [], ◌++◌}
 use mathlib.Core.Bool.{Bool, true, false, cond, ◌&&◌}
 use native.Mathlib.Omega.{arith}
 use lib.ListN.{length, get_or, drop}
-use lib.Dec.{ltb, eqb}
-use borrow.Author.Tests.{lt-ltb, le-ltb, eq-eqb, ne_eqb}
-use Rattle.limits.specs.Limits.{version_most, kexinit_most, count_most, room_least, method_last}
+use borrow.Author.Tests.{eq-eqb, ne_eqb}
+use Rattle.limits.specs.Limits.{version_most, kexinit_most, room_least}
 use Rattle.limits.proofs.BoolLaws.{and_true}
-use Rattle.limits.proofs.RangeLaws.{within_is, within_low, within_high, within_most}
+use Rattle.limits.proofs.RangeLaws.{within_most}
 use Rattle.buffers.specs.Bytes.{zeros, over, laid}
 use Rattle.buffers.proofs.ByteLaws.{length_over, over_over, laid_fits}
-use Rattle.wire.specs.Causes.{cause_if, cause_unless}
-use Rattle.wire.proofs.CauseLaws.{if_holds, if_fails, unless_holds, unless_fails}
+use Rattle.wire.proofs.CauseLaws.{unless_holds, unless_fails}
 use Rattle.transcript.specs.Fields.{field, field_length, field_size, size_sum}
 use Rattle.transcript.proofs.RoomLaws.{length_field, field_length_most}
 use Rattle.transcript.proofs.FieldLaws.{field_size_fits, size_sum_fits}
-use Rattle.exchange.specs.Causes.{kexinit_ok, method_ok, again_cause}
+use Rattle.exchange.specs.Causes.{again_cause}
 use Rattle.exchange.specs.Record.{no_lengths, completed}
 use Rattle.exchange.specs.Again.{again_number, versions_end, begun_again, again_room}
 use Rattle.exchange.specs.declared.Stage.TheVariants.{Started}
@@ -30,38 +28,6 @@ use Rattle.stored.proofs.RoundTrip.{session_stored}
 use Rattle.changes.specs.Changes.{put_head}
 use Rattle.changes.proofs.ChangeLaws.{head_put}
 use Rattle.lent.specs.Lent.{left, untouched, again_left, lent_again}
-
--- ---- again_cause
-
-module _ (m : ℕ) (ic is : List ℕ) (room count : ℕ) where
-  pub again_low : m < 1 → 2 ≡ again_cause m ic is room count
-  unfolding again_cause method_ok
-  again_low h = sym (unless_fails _ 2 _ (within_low 1 method_last m h))
-
-  pub again_high : method_last < m → 2 ≡ again_cause m ic is room count
-  unfolding again_cause method_ok
-  again_high h = sym (unless_fails _ 2 _ (within_high 1 method_last m h))
-
-  module _ (a : 1 ≤ m) (b : m ≤ method_last) where
-    known : again_cause m ic is room count ≡ cause_if (ltb room room_least) 3 (cause_unless (kexinit_ok ic && kexinit_ok is) 4 (cause_if (eqb count count_most) 23 0))
-    unfolding again_cause method_ok
-    known = unless_holds _ 2 _ (within_is 1 method_last m a b)
-
-    pub again_room_lem : room < room_least → 3 ≡ again_cause m ic is room count
-    again_room_lem h = sym (known ∙ if_holds _ 3 _ (lt-ltb room room_least h))
-
-    module _ (e : room_least ≤ room) where
-      judged : again_cause m ic is room count ≡ cause_unless (kexinit_ok ic && kexinit_ok is) 4 (cause_if (eqb count count_most) 23 0)
-      judged = known ∙ if_fails _ 3 _ (le-ltb room room_least e)
-
-      pub again_field : (kexinit_ok ic && kexinit_ok is) ≡ false → 4 ≡ again_cause m ic is room count
-      again_field h = sym (judged ∙ unless_fails _ 4 _ h)
-
-      pub again_full : (kexinit_ok ic && kexinit_ok is) ≡ true → count ≡ count_most → 23 ≡ again_cause m ic is room count
-      again_full h k = sym (judged ∙ unless_holds _ 4 _ h ∙ if_holds _ 23 0 (eq-eqb count count_most k))
-
-      pub again_good : (kexinit_ok ic && kexinit_ok is) ≡ true → ¬ (count ≡ count_most) → 0 ≡ again_cause m ic is room count
-      again_good h k = sym (judged ∙ unless_holds _ 4 _ h ∙ if_fails _ 23 0 (ne_eqb count count_most k))
 
 -- ---- what the bytes of a complete exchange tell
 

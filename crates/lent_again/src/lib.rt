@@ -1,36 +1,34 @@
 // Beginning again on an exchange in lent bytes that is complete: the same role and the V's that stand in the room, any method, a new I_C and I_S. Bytes
-// that no exchange has are answered 1 and stay; every refusal changes nothing.
-#![tactic(auto)]
+// that no exchange has are answered 1 and stay; every refusal changes nothing. The answer is a number (the C interface).
+#![tactic(auto, unfolding(exchange::specs::Causes::again_cause, wire::specs::Causes::cause_if, wire::specs::Causes::cause_unless))]
 
 ghost use Rattle.std.specs.Prelude.{◌≡◌, [], length};
+ghost use Rattle.limits.specs.Refusals.{told};
 ghost use Rattle.buffers.specs.Bytes.{laid};
 ghost use Rattle.transcript.specs.Fields.{field, field_size, size_sum};
 ghost use Rattle.exchange.specs.Causes.{again_cause};
 ghost use Rattle.lent.specs.Lent.{left, lent_again};
 
+use changes::Head;
+use limits::Refusal;
+
 // The first cause in what it is handed, and in the count: 2, 3, 4, 23.
-fn again_cause(method: u8, ic: &[u8], is: &[u8], room: usize, count: u64) -> u8
-    ensures { result ≡ again_cause method ic.now is.now room count }
+fn again_cause(method: u8, ic: &[u8], is: &[u8], room: usize, count: u64) -> Result<(), Refusal>
+    ensures { told result ≡ again_cause method ic.now is.now room count }
 {
-    if method < 1 {
-        return 2;
-    }
-    if limits::METHOD_LAST < method {
-        return 2;
+    if !exchange::is_method(method) {
+        return Err(Refusal::NoMethod);
     }
     if room < limits::ROOM_LEAST {
-        return 3;
+        return Err(Refusal::RoomTooShort);
     }
-    if !judge::kexinit_ok(ic) {
-        return 4;
-    }
-    if !judge::kexinit_ok(is) {
-        return 4;
+    if !judge::kexinit_ok(ic) || !judge::kexinit_ok(is) {
+        return Err(Refusal::BadInput);
     }
     if count == limits::COUNT_MOST {
-        return 23;
+        return Err(Refusal::CountSpent);
     }
-    0
+    Ok(())
 }
 
 // Both I, one behind the other.
@@ -47,11 +45,10 @@ pub fn again(ex: &mut [u8], room: &mut [u8], method: u8, ic: &[u8], is: &[u8]) -
     ensures { left result [] ex.new room.new [] ≡ lent_again ex.old room.old method ic.now is.now }
 {
     if !due::is_complete(ex) {
-        return 1;
+        return Refusal::NotDue.number();
     }
-    let n = again_cause(method, ic, is, room.len(), stored::count_in(ex));
-    if n != 0 {
-        return n;
+    if let Err(e) = again_cause(method, ic, is, room.len(), stored::count_in(ex)) {
+        return e.number();
     }
     let l = stored::lengths_in(ex);
     let at = transcript::add_sizes(transcript::field_size(l.vc), transcript::field_size(l.vs));
@@ -59,14 +56,16 @@ pub fn again(ex: &mut [u8], room: &mut [u8], method: u8, ic: &[u8], is: &[u8]) -
     let role = stored::byte_in(ex, stored::ROLE_AT);
     lent::make(
         ex,
-        stored::STARTED,
-        0,
-        role,
-        method,
-        l.vc,
-        l.vs,
-        ic.len(),
-        is.len(),
+        Head {
+            stage: stored::STARTED,
+            fail: 0,
+            role,
+            method,
+            vc: l.vc,
+            vs: l.vs,
+            ic: ic.len(),
+            is: is.len(),
+        },
     );
     0
 }

@@ -1,5 +1,5 @@
 // The client's own steps on an exchange in lent bytes: own C, REPLY read, the verdict. Each is lent the bytes and the room, judges for
-// itself, returns its number and tells its counts or places through lent numbers. Bytes that no exchange has are answered 1 and stay.
+// itself, returns its number and tells its counts or places through lent numbers (the C interface). Bytes that no exchange has are answered 1 and stay.
 #![tactic(auto)]
 
 ghost use Rattle.std.specs.Prelude.{◌≡◌, [], ◌∷◌, ◌≤◌, length};
@@ -14,7 +14,7 @@ fn put_init(out: &mut [u8], c: &[u8])
     requires { length (init_bytes c.now) ≤ length out.old }
     ensures { out.new ≡ onto out.old (init_bytes c.now) }
 {
-    out[0] = 30;
+    out[0] = messages::INIT.byte;
     writers::put_string(out, 1, c);
 }
 
@@ -24,8 +24,9 @@ pub fn own_c(ex: &mut [u8], room: &mut [u8], c: &[u8], out: &mut [u8], count: &m
         left result (count.new ∷ []) ex.new room.new (out.new ∷ []) ≡ lent_call ex.old room.old q (out.old ∷ []) }
 {
     *count = 0;
-    let fed = judge::own_c_cause(stored::byte_in(ex, stored::METHOD_AT), c, out.len());
-    let n = due::step_number(1, ex, room.len(), fed);
+    let method = stored::byte_in(ex, stored::METHOD_AT);
+    let fed = limits::number_told(judge::own_c_cause(method, c, out.len()));
+    let n = due::step_number(due::OWN_C, ex, room.len(), fed);
     if n != 0 {
         return lent::refuse(n, ex, room);
     }
@@ -40,18 +41,12 @@ pub fn own_c(ex: &mut [u8], room: &mut [u8], c: &[u8], out: &mut [u8], count: &m
 pub fn read_reply(ex: &mut [u8], room: &mut [u8], payload: &[u8], told: &mut [u64; 7]) -> u8
     ensures { left result told.new ex.new room.new [] ≡ positioned (position result reply_layout payload.now) (lent_call ex.old room.old (reply payload.now) []) }
 {
-    let fed = judge_peer::reply_cause(stored::byte_in(ex, stored::METHOD_AT), payload);
-    let n = due::step_number(3, ex, room.len(), fed);
+    let method = stored::byte_in(ex, stored::METHOD_AT);
+    let fed = limits::number_told(judge_peer::reply_cause(method, payload));
+    let n = due::step_number(due::READ_REPLY, ex, room.len(), fed);
     if n != 0 {
-        *told = [
-            0,
-            0,
-            0,
-            0,
-            0,
-            0,
-            messages::position(n, payload, messages::REPLY) as u64,
-        ];
+        *told = [0; 7];
+        told[6] = messages::position(n, payload, messages::REPLY) as u64;
         return lent::refuse(n, ex, room);
     }
     let k = wire::string_part(payload, 1, 0);
@@ -89,8 +84,8 @@ pub fn verdict(
         left result (count.new ∷ []) ex.new room.new (k_out.new ∷ []) ≡ lent_call ex.old room.old q (k_out.old ∷ []) }
 {
     *count = 0;
-    let fed = judge::verdict_cause(signature, host_key, k_out.len());
-    let n = due::step_number(6, ex, room.len(), fed);
+    let fed = limits::number_told(judge::verdict_cause(signature, host_key, k_out.len()));
+    let n = due::step_number(due::VERDICT, ex, room.len(), fed);
     if n != 0 {
         return lent::refuse(n, ex, room);
     }

@@ -7,7 +7,12 @@ use native.Mathlib.Nat.{pow-suc}
 use lib.ListN.{length, get_or, take, drop, length-append, length-drop, take-append-drop}
 use lib.Seq.{take_at, drop_at, take-suc, get_or-drop, drop-drop, length-take-le}
 use borrow.Author.Tests.{eq-eqb, ne_eqb}
+use mathlib.Core.Bool.{false}
+use lib.Dec.{eqb}
 use Rattle.limits.specs.Limits.{h_size, block_most, hash_size}
+use Rattle.limits.specs.Refusals.{number_of}
+use Rattle.limits.specs.declared.Refusal.{Refusal}
+use Rattle.limits.specs.declared.Refusal.TheVariants.{NotDue, NoMethod, RoomTooShort, BadInput, OutputTooShort, PayloadSize, OtherMessage, FieldPastEnd, BytesLeft, FieldLength, PointLead, ClassicalFailed, KemFailed, VerdictNo, BadName, NoCommonMethod, NoCommonHostKey, LongMpint, CountSpent}
 use Rattle.buffers.specs.Bytes.{Bytes, laid}
 use Rattle.buffers.proofs.ByteLaws.{laid_laid, laid_whole}
 use Rattle.sha_words.specs.Blocks.{word_at}
@@ -24,6 +29,29 @@ size_taken b x y h = rw (eq-eqb (length b) hash_size h)
 
 pub size_left : {A : Type 0} (b : List ℕ) (x y : A) → (length b ≡ hash_size → ⊥) → y ≡ by_hash_size b x y
 size_left b x y h = rw (ne_eqb (length b) hash_size h)
+
+-- ---- a refusal's number
+
+pub refused : (e : Refusal) → eqb (number_of e) 0 ≡ false
+refused NotDue = refl
+refused NoMethod = refl
+refused RoomTooShort = refl
+refused BadInput = refl
+refused OutputTooShort = refl
+refused PayloadSize = refl
+refused OtherMessage = refl
+refused FieldPastEnd = refl
+refused BytesLeft = refl
+refused FieldLength = refl
+refused PointLead = refl
+refused ClassicalFailed = refl
+refused KemFailed = refl
+refused VerdictNo = refl
+refused BadName = refl
+refused NoCommonMethod = refl
+refused NoCommonHostKey = refl
+refused LongMpint = refl
+refused CountSpent = refl
 
 -- ---- laid whole
 

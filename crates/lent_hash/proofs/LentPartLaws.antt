@@ -14,8 +14,8 @@ use Rattle.sha_words.specs.Constants.{known}
 use Rattle.sha_words.specs.Message.{bytes_of, sha2, sized}
 use Rattle.sha_words.proofs.PaddingLaws.{length_bytes_of}
 use Rattle.sha_2.specs.declared.Hash.{Hash}
-use Rattle.sha_2.specs.declared.Fed.{Fed}
-use Rattle.sha_2.specs.declared.Digest.{Digest}
+use Rattle.sha_2.specs.Hash.{Fed}
+use Rattle.sha_2.specs.Hash.{Digest}
 use Rattle.sha_2.specs.Hash.{fresh, blank, started, fits, taken, fed, finished, fed_all, AllTaken, all_of}
 use Rattle.sha_2.proofs.PartLaws.{fed_empty, fed_fed, fed_first, fed_past, taken_total}
 use Rattle.sha_2.proofs.WholeLaws.{taken_tail, taken_value, taken_held, fresh_value, parts_taken, fed_parts}

@@ -5,6 +5,8 @@ use mathlib.Core.List.{List, [], ◌∷◌}
 use mathlib.Core.Bool.{Bool, true, false, cond, ◌&&◌}
 use native.Mathlib.Omega.{arith}
 use lib.ListN.{drop, length-drop}
+use lib.Dec.{eqb}
+use borrow.Author.Tests.{eqb-true, eqb-false}
 use Rattle.limits.specs.Limits.{h_size}
 use Rattle.buffers.specs.Bytes.{zeros, laid}
 use Rattle.buffers.proofs.ByteLaws.{laid_whole}
@@ -21,7 +23,7 @@ use Rattle.lent.proofs.LentLaws.{accepted_known}
 
 module _ (b room : List ℕ) (q : Call) (p : List ℕ) (i n : ℕ) (e : n ≡ by_fit b (number (decoded b) room q) 1) where
   -- refused: no place
-  pub no_place : ¬ (n ≡ 0) → zeros 2 ≡ by_fit b (place_of (step_part (decoded b) room q p i)) (zeros 2)
+  no_place : ¬ (n ≡ 0) → zeros 2 ≡ by_fit b (place_of (step_part (decoded b) room q p i)) (zeros 2)
   unfolding by_fit step_part
   no_place h = by_fit_lem (fits b) e
     where
@@ -30,12 +32,20 @@ module _ (b room : List ℕ) (q : Call) (p : List ℕ) (i n : ℕ) (e : n ≡ by
       by_fit_lem false k = refl
 
   -- accepted: the string's
-  pub place_told : n ≡ 0 → (x : Part) → x ≡ field_part p i → x.start ∷ x.len ∷ [] ≡ by_fit b (place_of (step_part (decoded b) room q p i)) (zeros 2)
+  place_told : n ≡ 0 → (x : Part) → x ≡ field_part p i → x.start ∷ x.len ∷ [] ≡ by_fit b (place_of (step_part (decoded b) room q p i)) (zeros 2)
   unfolding step_part
   place_told z x h =
       let k = accepted_known b room q [] n e z in
       let s : x ≡ step_part (decoded b) room q p i = h ∙ rw (kind_accepted (number (decoded b) room q) k.1) in
       ap place_of s ∙ fit_taken b (place_of (step_part (decoded b) room q p i)) (zeros 2) k.0
+
+  -- either, by the number
+  pub part_told : (x : List ℕ) → x ≡ cond (eqb n 0) (place_of (field_part p i)) (zeros 2) → x ≡ by_fit b (place_of (step_part (decoded b) room q p i)) (zeros 2)
+  part_told x h = by_test (eqb n 0) refl
+    where
+      by_test : (t : Bool) → eqb n 0 ≡ t → x ≡ by_fit b (place_of (step_part (decoded b) room q p i)) (zeros 2)
+      by_test true w = h ∙ rw w (place_told (eqb-true n 0 w) (field_part p i) refl)
+      by_test false w = h ∙ rw w (no_place (eqb-false n 0 w))
 
 -- ---- the session
 

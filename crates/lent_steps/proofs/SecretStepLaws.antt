@@ -17,16 +17,16 @@ use Rattle.wire.proofs.PartLaws.{inside_fits}
 use Rattle.sha_words.specs.Message.{sha2, sized}
 use Rattle.sha_words.proofs.DigestLaws.{length_sha2}
 use Rattle.sha_words.proofs.SizedLaws.{length_sized, take_sized}
-use Rattle.sha_2.specs.Hash.{digested}
-use Rattle.sha_2.specs.declared.Digest.{Digest}
+use Rattle.sha_2.specs.Hash.{Digest, digested}
 use Rattle.sha_2.proofs.WholeLaws.{digested_known}
 use Rattle.methods.specs.Rows.{row_of, k_most}
 use Rattle.methods.proofs.FormLaws.{length_most_lem}
 use Rattle.methods.specs.declared.KForm.{KForm}
 use Rattle.methods.specs.declared.KForm.TheVariants.{Mpint}
 use Rattle.methods.specs.Sound.{Sound}
-use Rattle.secret.specs.Secret.{k_bytes, kept}
-use Rattle.secret.specs.declared.Secret.{Secret}
+use Rattle.secret.specs.Secret.{Secret, k_bytes, told_by, kept}
+use Rattle.secret.specs.declared.Secret.{Secret as Held}
+use Rattle.std.specs.Prelude.{Option, Some, None, IsSome}
 use Rattle.secret.proofs.SecretLaws.{kept_fits}
 use Rattle.transcript.specs.Fields.{field, field_length, around, field_size}
 use Rattle.transcript.proofs.RoomLaws.{length_field, take_onto}
@@ -80,11 +80,15 @@ key_part : (k : List ℕ) (len : ℕ) (bytes src : List ℕ) → length k ≤ k_
     → src ≡ bytes_at bytes (inside (length bytes) (part 0 len)) → src ≡ k
 key_part k len bytes src h l b f = f ∙ (λ i. bytes_at (b i) (inside (length (b i)) (part 0 (l i)))) ∙ record_part k h
 
--- what `k_by_method` gave
-pub key_kept : (k : List ℕ) (g : Secret) → length k ≤ k_size → g ≡ kept k → (g.len ≡ length k) × (g.bytes ≡ k_record k)
-key_kept k g h f =
-    let e = f ∙ sym (kept_fits k h) in
-    (ap (λ (v : Secret). v.len) e, ap (λ (v : Secret). v.bytes) e ∙ record_kept k h)
+-- what `secret::k_of` gave of a K that fits: one that is there, its length and its record
+pub key_some : (k : List ℕ) (g : Option Held) → length k ≤ k_size → told_by g ≡ kept k → IsSome g
+key_some k None h f = let e = ap (λ (v : Secret). v.number) (f ∙ sym (kept_fits k h)) in absurd (omega arith)
+key_some k (Some v) h f = refl
+
+pub key_kept : (k : List ℕ) (g : Option Held) (v : Held) → length k ≤ k_size → told_by g ≡ kept k → g ≡ Some v → (v.len ≡ length k) × (v.bytes ≡ k_record k)
+key_kept k g v h f s =
+    let e = ap told_by (sym s) ∙ f ∙ sym (kept_fits k h) in
+    (ap (λ (w : Secret). w.len) e, ap (λ (w : Secret). w.bytes) e ∙ record_kept k h)
 
 -- ---- K by its form, and H
 

@@ -1,26 +1,27 @@
 // The steps that both roles take on an exchange in lent bytes: the start and the secret. Each is lent the bytes and the room, judges for
 // itself and returns its number. A start takes bytes of an exchange's size, whatever they hold, and answers 1 to others, which stay; the secret answers 1 on
-// bytes that no exchange has.
+// bytes that no exchange has. Numbers, the count and H are told as C takes them (the C interface).
 #![tactic(auto)]
 
 ghost use Rattle.std.specs.Prelude.{◌+◌, ◌≤◌, ◌≡◌, [], ◌∷◌, ◌++◌, true, cond, eqb, length, take, set};
-ghost use Rattle.limits.specs.Limits.{hash_most, server};
+ghost use Rattle.limits.specs.Limits.{hash_most, k_size, server};
 ghost use Rattle.buffers.specs.Bytes.{onto, laid};
 ghost use Rattle.wire.specs.Parts.{part, inside, bytes_at};
-ghost use Rattle.secret.specs.Secret.{kept};
 ghost use Rattle.transcript.specs.Fields.{field, field_size, around};
 ghost use Rattle.exchange.specs.Causes.{method_ok, k_of, h_of};
-ghost use Rattle.exchange.specs.Steps.{HeadFits, head_size, fields_size, secret as secret_step};
+ghost use Rattle.exchange.specs.Steps.{HeadFits, head_size, fields_size, k_record, secret as secret_step};
 ghost use Rattle.stored.specs.Stored.{by_size, lengths_told};
 ghost use Rattle.changes.specs.Changes.{put16};
 ghost use Rattle.lent.specs.Lent.{left, lent_call, lent_start};
 
+use changes::Head;
 use exchange::{Classical, Kem};
+use limits::Refusal;
 use methods::KForm;
 use secret::Secret;
 use wire::Part;
 
-// Starts an exchange, and a session: 2, 3, 4, or both V and both I go into the room.
+// Starts an exchange, and a session: 2, 3, 4, or both V and both I go into the room. The four come one by one, as the C interface hands them in.
 pub fn start(
     ex: &mut [u8],
     role: u8,
@@ -34,30 +35,39 @@ pub fn start(
     ensures { left result [] ex.new room.new [] ≡ lent_start ex.old role method vc.now vs.now ic.now is.now room.old }
 {
     if ex.len() != limits::EXCHANGE_SIZE {
-        return 1;
+        return Refusal::NotDue.number();
     }
     transcript::wipe(ex);
-    let n = judge::start_cause(role, method, vc, vs, ic, is, room.len());
-    if n != 0 {
-        lent::make(ex, stored::FAILED, n, 0, 0, 0, 0, 0, 0);
+    if let Err(e) = judge::start_cause(role, method, vc, vs, ic, is, room.len()) {
+        let n = e.number();
+        lent::make(
+            ex,
+            Head {
+                stage: stored::FAILED,
+                fail: n,
+                ..Head::default()
+            },
+        );
         return n;
     }
     put_head(room, vc, vs, ic, is);
     lent::make(
         ex,
-        stored::STARTED,
-        0,
-        role,
-        method,
-        vc.len(),
-        vs.len(),
-        ic.len(),
-        is.len(),
+        Head {
+            stage: stored::STARTED,
+            fail: 0,
+            role,
+            method,
+            vc: vc.len(),
+            vs: vs.len(),
+            ic: ic.len(),
+            is: is.len(),
+        },
     );
     0
 }
 
-// Both V and both I at the room's beginning.
+// Both V and both I at the room's beginning, one by one, as `start` is handed them.
 fn put_head(room: &mut [u8], vc: &[u8], vs: &[u8], ic: &[u8], is: &[u8])
     requires { HeadFits room.old vc.now vs.now ic.now is.now }
     ensures { room.new ≡ onto room.old (field vc.now ++ field vs.now ++ field ic.now ++ field is.now) }
@@ -83,19 +93,20 @@ fn join_own(ex: &mut [u8], room: &mut [u8], role: u8, ks: &[u8], s: &[u8])
     lent::with_s(ex, room, stored::SECRET_DONE, ks, s);
 }
 
-// K in the method's form. Only a hybrid's is by the hash, of K_PQ and then X: where K is a number, what stands in the digest's place is not read.
+// K in the method's form, which fits its record. Only a hybrid's is by the hash, of K_PQ and then X: where K is a number, what stands in the digest's place is not read.
+// The method, here and below, is a number that is one's, which `due` found: a type for it would be made by a test that never fails.
 fn k_by_method(method: u8, x: &[u8], k_pq: &[u8]) -> Secret
-    requires { (method_ok method ≡ true) × (length k_pq.now + length x.now ≤ hash_most) }
-    ensures { result ≡ kept (k_of method x.now k_pq.now) }
+    requires { (method_ok method ≡ true) × (length k_pq.now + length x.now ≤ hash_most) × (length (k_of method x.now k_pq.now) ≤ k_size) }
+    ensures { let k = k_of method x.now k_pq.now in
+        (result.len ≡ length k) × (result.bytes ≡ k_record k) }
 {
     let form = methods::k_form(method);
     let KForm::Digest = form else {
-        return secret::k_of(form, x, k_pq);
+        return secret::k_of(form, x, k_pq).unwrap();
     };
     let len = methods::digest_len(method);
-    let d = sha_2::hash_of(len, k_pq, x);
-    let bytes = d.bytes;
-    secret::k_of(form, x, wire::part_of(&bytes, Part { start: 0, len }))
+    let bytes = sha_2::hash_of(len, k_pq, x).unwrap_or([0u8; limits::H_SIZE]);
+    secret::k_of(form, x, wire::part_of(&bytes, Part { start: 0, len })).unwrap()
 }
 
 // K joins the room behind the other fields, and the exchange. Answers where K begins.
@@ -117,8 +128,9 @@ fn h_of(method: u8, room: &[u8], n: usize) -> [u8; limits::H_SIZE]
     requires { (method_ok method ≡ true) × (n ≤ length room.now) × (n ≤ hash_most) }
     ensures { result ≡ h_of method (take n room.now) }
 {
-    let d = sha_2::hash_of(methods::digest_len(method), &room[..n], &room[..0]);
-    d.bytes
+    sha_2::hash_of(methods::digest_len(method), &room[..n], &room[..0]).unwrap_or(
+        [0u8; limits::H_SIZE],
+    )
 }
 
 // H is told behind the hash input's count, and joins the exchange: from where it is told, so that no copy is taken apart byte by byte.
@@ -140,7 +152,8 @@ fn join_hash(
     *count = n as u64;
 }
 
-// The secret: K joins the room and the exchange, and H the exchange. Told: the hash input's count, and H; zeros on a refusal.
+// The secret: K joins the room and the exchange, and H the exchange. Told: the hash input's count, and H; zeros on a refusal. What the primitives
+// gave comes one by one, as the C interface hands it in.
 pub fn take_secret(
     ex: &mut [u8],
     room: &mut [u8],
@@ -160,8 +173,10 @@ pub fn take_secret(
     *h = [0u8; limits::H_SIZE];
     let role = stored::byte_in(ex, stored::ROLE_AT);
     let method = stored::byte_in(ex, stored::METHOD_AT);
-    let fed = judge_secret::secret_cause(role, method, cl, x, kem, k_pq, ks, s);
-    let n = due::step_number(4, ex, room.len(), fed);
+    let fed = limits::number_told(judge_secret::secret_cause(
+        role, method, cl, x, kem, k_pq, ks, s,
+    ));
+    let n = due::step_number(due::SECRET, ex, room.len(), fed);
     if n != 0 {
         return lent::refuse(n, ex, room);
     }

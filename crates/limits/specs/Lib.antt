@@ -1,3 +1,4 @@
 pub mod Limits
 pub mod Range
+pub mod Refusals
 pub mod Every

@@ -4,6 +4,7 @@
 
 ghost use Rattle.std.specs.Prelude.{◌≡◌};
 ghost use Rattle.limits.specs.Range.{within};
+ghost use Rattle.limits.specs.Refusals.{number_of, told};
 
 // A version, without its line's end.
 pub const VERSION_MOST: usize = 253;
@@ -87,8 +88,48 @@ pub const SERVER: u8 = 2;
 pub fn in_range(lo: usize, hi: usize, n: usize) -> bool
     ensures { result ≡ within lo hi n }
 {
-    if n < lo {
-        return false;
+    (lo..=hi).contains(&n)
+}
+
+// Why a call is refused (SPECIFICATION 2.2). A variant as a number is its row's.
+#[derive(Clone, Copy, PartialEq, Eq)]
+pub enum Refusal {
+    NotDue = 1,
+    NoMethod = 2,
+    RoomTooShort = 3,
+    BadInput = 4,
+    OutputTooShort = 5,
+    PayloadSize = 10,
+    OtherMessage = 11,
+    FieldPastEnd = 12,
+    BytesLeft = 13,
+    FieldLength = 14,
+    PointLead = 15,
+    ClassicalFailed = 16,
+    KemFailed = 17,
+    VerdictNo = 18,
+    BadName = 19,
+    NoCommonMethod = 20,
+    NoCommonHostKey = 21,
+    LongMpint = 22,
+    CountSpent = 23,
+}
+
+impl Refusal {
+    // Its number.
+    pub fn number(self) -> u8
+        ensures { result ≡ number_of self }
+    {
+        self as u8
     }
-    n <= hi
+}
+
+// The number that a call answers: 0, or its refusal's.
+pub fn number_told(r: Result<(), Refusal>) -> u8
+    ensures { result ≡ told r }
+{
+    match r {
+        Ok(()) => 0,
+        Err(e) => e.number(),
+    }
 }

@@ -6,17 +6,19 @@ use mathlib.Core.Bool.{Bool, true, false, cond, ◌&&◌}
 use native.Mathlib.Omega.{arith}
 use lib.ListN.{length, get_or, set, take, drop}
 use lib.Dec.{leb, ltb, eqb}
-use borrow.Author.Tests.{eq-eqb, ne_eqb, le-leb, lt-leb, leb-true, leb-false, lt-ltb, le-ltb}
+use borrow.Author.Tests.{eq-eqb, ne_eqb, le-leb, lt-leb, lt-ltb, le-ltb}
 use Rattle.limits.specs.Limits.{string_most, list_count, cookie_size, kexinit_most}
 use Rattle.limits.specs.Every.{every}
-use Rattle.limits.proofs.BoolLaws.{both}
+use mathlib.Core.Logic.{◌⊎◌, inl, inr}
+use Rattle.std.specs.Prelude.{Option, Some, None}
+use Rattle.std.specs.Option.{unwrap_or}
+use Rattle.std.specs.Borrow.{Bor}
+use Rattle.std.specs.Slice.{IsGetRangeResult}
+use Rattle.limits.proofs.BoolLaws.{both, and_false}
 use Rattle.buffers.specs.Bytes.{onto, laid}
-use Rattle.buffers.proofs.ByteLaws.{laid_nil}
 use Rattle.wire.specs.Causes.{cause_if}
-use Rattle.wire.specs.Parts.{part, inside, bytes_at}
 use Rattle.wire.specs.Strings.{bytes32, strings}
 use Rattle.wire.proofs.CauseLaws.{if_holds, if_fails, unless_holds, unless_fails}
-use Rattle.wire.proofs.PartLaws.{inside_fits, inside_past}
 use Rattle.names.specs.Names.{good_list}
 use Rattle.writers.specs.Writers.{wrote, leaves}
 use Rattle.writers.proofs.WriterLaws.{told_refused, told_done}
@@ -28,29 +30,29 @@ use Rattle.lists.proofs.PutLaws.{all_good, all_length}
 
 module _ (s : List ℕ) (from to : ℕ) where
   -- a list that ends ahead of its beginning, or behind the buffer, is none
-  pub list_none : to < from → [] ≡ list_at s from to
+  list_none : (to < from) ⊎ (length s < to) → [] ≡ list_at s from to
   unfolding list_at
-  list_none h = rw (lt-leb from to h)
+  list_none (inl h) = rw (lt-leb from to h)
+  list_none (inr h) = rw (lt-leb to (length s) h, and_false (leb from to))
 
-  pub list_part_lem : from ≤ to → bytes_at s (inside (length s) (part from (to - from))) ≡ list_at s from to
+  list_is : from ≤ to → to ≤ length s → take (to - from) (drop from s) ≡ list_at s from to
   unfolding list_at
-  list_part_lem h = by_test (leb to (length s)) refl
-    where
-      by_test : (t : Bool) → leb to (length s) ≡ t → bytes_at s (inside (length s) (part from (to - from))) ≡ cond (leb from to && t) (take (to - from) (drop from s)) []
-      by_test true e = rw (le-leb from to h, inside_fits (length s) (part from (to - from)) (omega (arith, leb-true to (length s) e)))
-      by_test false e = rw (le-leb from to h, inside_past (length s) (part from (to - from)) (omega (arith, leb-false to (length s) e)))
+  list_is h k = rw (le-leb from to h, le-leb to (length s) k)
 
-  pub ends_ahead : to < from → false ≡ good_at s from to
-  unfolding good_at
-  ends_ahead h = rw (lt-leb from to h)
+  -- what `get` finds there, or the empty list
+  pub list_got : (r : Option (Bor (List ℕ))) (d : Bor (List ℕ)) → IsGetRangeResult s from to r → d.now ≡ [] → (unwrap_or r d).now ≡ list_at s from to
+  list_got None d l e = e ∙ list_none l.0
+  list_got (Some x) d l e = l.0.2 ∙ list_is l.0.0 l.0.1
 
-  pub ends_behind : from ≤ to → length s < to → false ≡ good_at s from to
+  -- and whether that is a name-list
+  pub good_none : (to < from) ⊎ (length s < to) → false ≡ good_at s from to
   unfolding good_at
-  ends_behind h k = rw (le-leb from to h, lt-leb to (length s) k)
+  good_none (inl h) = rw (lt-leb from to h)
+  good_none (inr h) = rw (lt-leb to (length s) h, and_false (leb from to))
 
-  pub stands_there : from ≤ to → to ≤ length s → (b : Bool) → b ≡ good_list (list_at s from to) → b ≡ good_at s from to
+  pub good_some : from ≤ to → to ≤ length s → (l : List ℕ) → l ≡ take (to - from) (drop from s) → good_list l ≡ good_at s from to
   unfolding good_at
-  stands_there h k b e = rw (le-leb from to h, le-leb to (length s) k, e)
+  good_some h k l e = ap good_list (e ∙ list_is h k) ∙ rw (le-leb from to h, le-leb to (length s) k)
 
 -- ---- the first bad one
 
@@ -180,8 +182,7 @@ module _ (cookie s ends : List ℕ) (follows reserved : ℕ) (out : List ℕ) (b
                     let n = proposed_length in
                     let w = cause_left ∙ if_fails _ 5 0 (le-ltb (length out) (length (kexinit (proposed cookie s ends follows reserved))) (omega arith)) in
                     let x : o3 ≡ onto out (kexinit (proposed cookie s ends follows reserved)) =
-                    message_laid out cookie (lists_at s ends 0 0 list_count) [] (is_yes follows) reserved c (omega arith) (length s + 57) (length s + 57) p (omega arith) o1 o2 o2 o3 e1 e2
-                    (sym (laid_nil o2 (length s + 57)))
+                    message_laid out cookie (lists_at s ends 0 0 list_count) (is_yes follows) reserved c (omega arith) (length s + 57) p o1 o2 o3 e1 e2
                     (e3 ∙ ap (λ (b : ℕ). laid (set o2 (length s + 57) b) (length s + 57 + 1) (bytes32 reserved)) q) in
                     let t = told_done (table_cause (length out) cookie s ends follows reserved) (kexinit (proposed cookie s ends follows reserved)) out (length s + 57 + 5) o3 w (sym n) x in
                     (t.0, (λ i. t.1 i ∷ (sym z ∙ f) i ∷ []), t.2)

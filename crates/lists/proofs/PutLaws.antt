@@ -46,16 +46,8 @@ module _ (s ends : List ℕ) (from i : ℕ) where
       let n : at + 4 + length b ≡ at + length (string b) = omega (arith, length_string b) in
       (λ j. laid (q j) (n j) r) ∙ laid_laid d at (string b) r (omega (arith, ap length p)) ∙ ap (laid d at) (sym p)
 
-  left_none : list_count ≤ i → left s ends from i ≡ []
+  pub left_none : list_count ≤ i → left s ends from i ≡ []
   left_none h = let e : list_count - i ≡ 0 = omega arith in ap (λ (n : ℕ). strings (lists_at s ends from i n)) e
-
-  -- bytes are left only of a list that the table has
-  pub left_some : 0 < length (left s ends from i) → i < list_count
-  left_some h = by_test (ltb i list_count) refl
-    where
-      by_test : (t : Bool) → ltb i list_count ≡ t → i < list_count
-      by_test true e = ltb-true i list_count e
-      by_test false e = let n = ap length (left_none (ltb-false i list_count e)) in let w : ⊥ = omega arith in absurd w
 
 -- nothing is left
 pub left_done : (l : List ℕ) (at : ℕ) (b : List ℕ) → length b ≡ 0 → at ≤ length l → laid l at b ≡ l

@@ -6,22 +6,25 @@ ghost use Rattle.methods.specs.Rows.{row_of, name_of};
 ghost use Rattle.writers.specs.Writers.{wrote, leaves};
 ghost use Rattle.lookups.specs.Lookups.{method_cause, sizes_of, name_cause};
 
+use limits::Refusal;
+
 // A yes/no as it is told: 1 or 0.
 pub fn told(yes: bool) -> u64
     ensures { result ≡ cond yes 1 0 }
 {
-    if yes { 1 } else { 0 }
+    u64::from(yes)
 }
 
 // A sign as it is told.
 pub fn told_sign(sign: i8) -> i64
     ensures { result ≡ sign }
 {
-    sign as i64
+    i64::from(sign)
 }
 
 // The sizes and rules of a method: lengths of C and of S, each with the place where its classical part begins, of X and of the digest,
-// whether it is a hybrid, and whether an all-zero X is refused. 2 and all 0 for a number that is no method.
+// whether it is a hybrid, and whether an all-zero X is refused. 2 and all 0 for a number that is no method. A number and not a Result: the C interface
+// needs it, since what is lent is told on a refusal too.
 pub fn method_sizes(method: u64, sizes: &mut [u64; 8]) -> u64
     ensures { (result ≡ method_cause method) × (sizes.new ≡ sizes_of method) }
 {
@@ -40,12 +43,12 @@ pub fn method_sizes(method: u64, sizes: &mut [u64; 8]) -> u64
         told(methods::zero_check(m)),
     ];
     if x == 0 {
-        return 2;
+        return Refusal::NoMethod as u64;
     }
     0
 }
 
-// Writes the name of a method at the beginning of out: 2 for a number that is none, then 5.
+// Writes the name of a method at the beginning of out: 2 for a number that is none, then 5. A number and a count that is lent: the C interface needs it.
 pub fn method_name(method: u64, out: &mut [u8], count: &mut u64) -> u64
     ensures { let name = name_of (row_of method) in
         let cause = name_cause (length out.old) method in
@@ -55,10 +58,10 @@ pub fn method_name(method: u64, out: &mut [u8], count: &mut u64) -> u64
     let len = method_names::name_len(m);
     *count = 0;
     if len == 0 {
-        return 2;
+        return Refusal::NoMethod as u64;
     }
     if out.len() < len {
-        return 5;
+        return Refusal::OutputTooShort as u64;
     }
     method_names::put_name(out, m);
     *count = len as u64;

@@ -12,7 +12,7 @@ use borrow.Author.Tests.{le-leb, lt-leb, leb-true, ltb-true, ltb-false, ne_eqb, 
 use Rattle.buffers.specs.Bytes.{Bytes}
 use Rattle.wire.specs.Parts.{bytes_at}
 use Rattle.wire.specs.Strings.{number32, string, whole, walk, read_string}
-use Rattle.wire.specs.declared.StringRead.{StringRead}
+use Rattle.wire.specs.Strings.{StringRead}
 use Rattle.wire.proofs.StringLaws.{length_string, whole_within, read_found}
 use Rattle.wire.proofs.WalkLaws.{walk_within}
 use Rattle.wire.proofs.RoundTrip.{number32_string, whole_string as string-whole, length_body, string_sound}

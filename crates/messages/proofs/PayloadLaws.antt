@@ -7,15 +7,18 @@ use native.Mathlib.Omega.{arith}
 use lib.ListN.{length, get_or}
 use lib.Dec.{ltb, leb, eqb}
 use borrow.Author.Tests.{le-leb, lt-leb, leb-true, lt-ltb, le-ltb, ltb-true, ltb-false, eq-eqb, ne_eqb, eqb-true}
+use Rattle.std.specs.Prelude.{Result, Ok, Err}
 use Rattle.limits.specs.Range.{within}
+use Rattle.limits.specs.Refusals.{told}
+use Rattle.limits.specs.declared.Refusal.{Refusal}
 use Rattle.limits.proofs.BoolLaws.{and_true, and_false}
-use Rattle.limits.proofs.RangeLaws.{within_is, within_low, within_high, within_least, within_most}
+use Rattle.limits.proofs.RangeLaws.{within_is, within_least, within_most}
 use Rattle.wire.specs.Causes.{cause_if, cause_unless}
-use Rattle.wire.specs.Strings.{walk}
+use Rattle.wire.specs.Strings.{Walk, walk}
 use Rattle.wire.proofs.CauseLaws.{if_holds, if_fails, unless_holds, unless_fails, if_none}
-use Rattle.messages.specs.Payload.{strings_end, fields_fit, message_cause, judged}
+use Rattle.messages.specs.Payload.{strings_end, fields_fit, message_cause, judged, judged_told}
 use Rattle.messages.specs.declared.Layout.{Layout}
-use Rattle.messages.specs.declared.Judged.{Judged}
+use Rattle.messages.specs.Payload.{Judged}
 
 -- a cause with another number was not met
 pub passed : (t : Bool) (n rest m : ℕ) → ¬ (n ≡ m) → cause_unless t n rest ≡ m → (t ≡ true) × (rest ≡ m)
@@ -58,15 +61,22 @@ module _ (l : Layout) (p : List ℕ) where
       let a = and_true (eqb (walk p l.first l.count).number 0) (leb (strings_end l p + l.behind) (length p)) e in
       (eqb-true (walk p l.first l.count).number 0 a.0, leb-true (strings_end l p + l.behind) (length p) a.1)
 
+  -- what is known of the strings that were passed over, and of those that were not
+  pub walk_passed : (place : ℕ) → ◌≡◌ {A = Walk} (record { number = 0; place = place }) (walk p l.first l.count)
+      → ((walk p l.first l.count).number ≡ 0) × (place ≡ strings_end l p)
+  walk_passed place e = (sym (ap (λ (x : Walk). x.number) e), ap (λ (x : Walk). x.place) e)
+
+  pub walk_cut_short : (place : ℕ) → ◌≡◌ {A = Walk} (record { number = 12; place = place }) (walk p l.first l.count)
+      → ¬ ((walk p l.first l.count).number ≡ 0) × (place ≡ strings_end l p)
+  walk_cut_short place e =
+      let n : 12 ≡ (walk p l.first l.count).number = ap (λ (x : Walk). x.number) e in
+      (λ z. omega arith, ap (λ (x : Walk). x.place) e)
+
   -- ---- message_cause, the causes in their order
 
-  pub cause_empty : length p < 1 → message_cause l p ≡ 10
+  pub cause_size : within 1 l.most (length p) ≡ false → message_cause l p ≡ 10
   unfolding message_cause
-  cause_empty h = unless_fails _ 10 _ (within_low 1 l.most (length p) h)
-
-  pub cause_long : l.most < length p → message_cause l p ≡ 10
-  unfolding message_cause
-  cause_long h = unless_fails _ 10 _ (within_high 1 l.most (length p) h)
+  cause_size h = unless_fails _ 10 _ h
 
   module _ (a : 1 ≤ length p) (b : length p ≤ l.most) where
     pub cause_other : (get_or p 0 0 ≡ l.byte → ⊥) → message_cause l p ≡ 11
@@ -137,9 +147,9 @@ module _ (l : Layout) (p : List ℕ) where
 
   -- ---- judged
 
-  pub judged_refused : (j : Judged) (k : ℕ) → (j.number ≡ k) × (j.place ≡ 0) → message_cause l p ≡ k → eqb k 0 ≡ false → j ≡ judged l p
+  pub judged_refused : (k : ℕ) → message_cause l p ≡ k → eqb k 0 ≡ false → ◌≡◌ {A = Judged} (record { number = k; place = 0 }) (judged l p)
   unfolding judged
-  judged_refused j k h e z = rw (e, z) (λ i. record { number = h.0 i; place = h.1 i })
+  judged_refused k e z = rw (e, z) refl
 
   pub judged_good : (place : ℕ) → place ≡ strings_end l p → message_cause l p ≡ 0 → ◌≡◌ {A = Judged} (record { number = 0; place = place }) (judged l p)
   unfolding judged
@@ -162,3 +172,11 @@ module _ (l : Layout) (p : List ℕ) where
   judged_zero j e z =
       let q : message_cause l p ≡ 0 = sym (judged_cause j e) ∙ z in
       (q, ap (λ (x : Judged). x.place) e ∙ judged_place q)
+
+  -- and by the answer
+  pub told_cause : (r : Result ℕ Refusal) → judged_told r ≡ judged l p → told r ≡ message_cause l p
+  told_cause (Ok place) e = judged_cause _ e
+  told_cause (Err f) e = judged_cause _ e
+
+  pub told_place : (place : ℕ) → judged_told (Ok place) ≡ judged l p → (message_cause l p ≡ 0) × (place ≡ strings_end l p)
+  told_place place e = judged_zero _ e refl

@@ -7,7 +7,7 @@ use lib.ListN.{length, get_or, drop, drop_of_length-le}
 use Rattle.limits.specs.Limits.{payload_most}
 use Rattle.buffers.specs.Bytes.{Bytes}
 use Rattle.wire.specs.Strings.{strings, walk}
-use Rattle.wire.specs.declared.Walk.{Walk}
+use Rattle.wire.specs.Strings.{Walk}
 use Rattle.wire.proofs.StringsLaws.{bodies, walk_strings, body_strings, strings_walked, body_walked}
 use Rattle.messages.specs.Payload.{message_cause}
 use Rattle.messages.specs.Messages.{init_bytes, reply_bytes, init_layout, reply_layout, field_of}

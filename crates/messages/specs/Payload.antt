@@ -1,11 +1,22 @@
 -- A payload of fixed bytes and a run of strings: its message number and fixed bytes, strings, fixed bytes behind them. INIT, REPLY and
 -- KEXINIT are read as such. Assumes nothing.
-use Rattle.std.specs.Prelude.{ℕ, ◌+◌, List, Bool, cond, ◌&&◌, length, get_or, ltb, leb, eqb}
+use Rattle.std.specs.Prelude.{ℕ, ◌+◌, List, Bool, Result, Ok, Err, cond, ◌&&◌, length, get_or, ltb, leb, eqb}
 use Rattle.limits.specs.Range.{within}
+use Rattle.limits.specs.Refusals.{number_of}
+use Rattle.limits.specs.declared.Refusal.{Refusal}
 use Rattle.wire.specs.Causes.{cause_if, cause_unless}
 use Rattle.wire.specs.Strings.{walk}
 use Rattle.messages.specs.declared.Layout.{Layout}
-use Rattle.messages.specs.declared.Judged.{Judged}
+
+-- a payload judged whole: 0 and where its strings end, or 10 to 13 and 0
+pub record Judged : Type 0 where
+  pub number : ℕ
+  pub place : ℕ
+
+-- the same by the place or a refusal
+abbrev pub judged_told : Result ℕ Refusal → Judged
+judged_told (Ok place) = record { number = 0; place = place }
+judged_told (Err e) = record { number = number_of e; place = 0 }
 
 -- where the strings end
 abbrev pub strings_end : Layout → List ℕ → ℕ

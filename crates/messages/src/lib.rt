@@ -3,8 +3,10 @@
 #![tactic(auto)]
 
 ghost use Rattle.std.specs.Prelude.{◌≡◌};
-ghost use Rattle.messages.specs.Payload.{judged};
+ghost use Rattle.messages.specs.Payload.{judged_told, judged};
 ghost use Rattle.messages.specs.Position.{breaks_at, position as position_in};
+
+use limits::Refusal;
 
 // How a payload is laid out: the most bytes it may have, its message number, where its strings begin, how many they are, and how many
 // bytes follow them, of which so many are a boolean.
@@ -36,48 +38,29 @@ pub const REPLY: Layout = Layout {
     boolean: 0,
 };
 
-// A payload judged whole: 0 and where its strings end, or 10 to 13 and 0.
-#[derive(Clone, Copy)]
-pub struct Judged {
-    pub number: u8,
-    pub place: usize,
-}
-
-// Judges a payload by its layout: 10 for its size, 11 for its message number, 12 for a field that passes the end, 13 for bytes left over.
-pub fn judge_message(payload: &[u8], l: Layout) -> Judged
-    ensures { result ≡ judged l payload.now }
+// Judges a payload by its layout: where its strings end, or why it is none, its size, its message number, a field that passes the end, or
+// bytes left over.
+pub fn judge_message(payload: &[u8], l: Layout) -> Result<usize, Refusal>
+    ensures { judged_told result ≡ judged l payload.now }
 {
-    if payload.len() < 1 {
-        return refused(10);
-    }
-    if l.most < payload.len() {
-        return refused(10);
+    if !limits::in_range(1, l.most, payload.len()) {
+        return Err(Refusal::PayloadSize);
     }
     if payload[0] != l.byte {
-        return refused(11);
+        return Err(Refusal::OtherMessage);
     }
-    let w = wire::skip_strings(payload, l.first, l.count);
-    if w.number != 0 {
-        return refused(12);
+    let place = wire::skip_strings(payload, l.first, l.count).map_err(|_| Refusal::FieldPastEnd)?;
+    let left = payload
+        .len()
+        .checked_sub(place)
+        .ok_or(Refusal::FieldPastEnd)?;
+    if left < l.behind {
+        return Err(Refusal::FieldPastEnd);
     }
-    let place = w.place;
-    if payload.len() < place {
-        return refused(12);
+    if l.behind < left {
+        return Err(Refusal::BytesLeft);
     }
-    if payload.len() - place < l.behind {
-        return refused(12);
-    }
-    if l.behind < payload.len() - place {
-        return refused(13);
-    }
-    Judged { number: 0, place }
-}
-
-// A refusal.
-fn refused(number: u8) -> Judged
-    ensures { (result.number ≡ number) × (result.place ≡ 0) }
-{
-    Judged { number, place: 0 }
+    Ok(place)
 }
 
 // Where a payload breaks: where its first field that passes the end begins, or the place behind its last.
@@ -87,26 +70,28 @@ fn breaks_at(payload: &[u8], l: Layout) -> usize
     if payload.len() < l.first {
         return 1;
     }
-    let run = wire::skip_strings(payload, l.first, l.count);
-    if run.number != 0 {
-        return run.place;
+    let place = match wire::skip_strings(payload, l.first, l.count) {
+        Ok(place) => place,
+        Err(cut) => return cut,
+    };
+    let left = payload.len() - place;
+    if left < l.boolean {
+        place
+    } else if left < l.behind {
+        place + l.boolean
+    } else {
+        place + l.behind
     }
-    let place = run.place;
-    if payload.len() - place < l.boolean {
-        return place;
-    }
-    if payload.len() - place < l.behind {
-        return place + l.boolean;
-    }
-    place + l.behind
 }
 
 // The position in an answer: of 12 where the field that passed the end begins, of 13 the first byte left over, of every other number 0.
+// A number and not a refusal: the C interface needs it, which tells both of a step that may have been taken too.
+#[tactic(auto, unfolding(crate::specs::Position::position))]
 pub fn position(number: u8, payload: &[u8], l: Layout) -> usize
     ensures { result ≡ position_in number l payload.now }
 {
-    if (number == 12) | (number == 13) {
-        return breaks_at(payload, l);
+    match number {
+        12 | 13 => breaks_at(payload, l),
+        _ => 0,
     }
-    0
 }

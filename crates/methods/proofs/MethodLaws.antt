@@ -75,25 +75,12 @@ row_number n h k =
 pub rule : (f : Method → Bool) → every f rows ≡ true → (n : ℕ) → 1 ≤ n → n ≤ method_last → f (row_of n) ≡ true
 rule f e n h k = ap f (row_at n h k) ∙ every_at f rows e (n - 1) (omega (arith, length_rows))
 
--- likewise of its number and its row
-pub rule_at : (f : ℕ → Method → Bool) → every (λ r. f r.number r) rows ≡ true → (n : ℕ) → 1 ≤ n → n ≤ method_last → f n (row_of n) ≡ true
-rule_at f e n h k = ap (λ (m : ℕ). f m (row_of n)) (sym (row_number n h k)) ∙ rule (λ r. f r.number r) e n h k
-
 -- no other number has a row
 pub row_none : (n : ℕ) → (n ≡ 1 → ⊥) → (n ≡ 2 → ⊥) → (n ≡ 3 → ⊥) → (n ≡ 4 → ⊥) → (n ≡ 5 → ⊥) → (n ≡ 6 → ⊥) → (n ≡ 7 → ⊥) → (n ≡ 8 → ⊥)
     → (n ≡ 9 → ⊥) → no_row ≡ row_of n
 unfolding row_of rows
 row_none n a b c d e f g h i =
     rw (ne_eqb n 1 a, ne_eqb n 2 b, ne_eqb n 3 c, ne_eqb n 4 d, ne_eqb n 5 e, ne_eqb n 6 f, ne_eqb n 7 g, ne_eqb n 8 h, ne_eqb n 9 i)
-
--- and this is what a `match` with an arm for each number leaves to its last arm
-abbrev pub Other : ℕ → Type 0
-Other n =
-    ((((((((Unit × (n ≡ 1 → ⊥)) × (n ≡ 2 → ⊥)) × (n ≡ 3 → ⊥)) × (n ≡ 4 → ⊥)) × (n ≡ 5 → ⊥)) × (n ≡ 6 → ⊥)) × (n ≡ 7 → ⊥)) × (n ≡ 8 → ⊥)) × (n ≡ 9 → ⊥)
-
-pub row_other : (n : ℕ) → Other n → no_row ≡ row_of n
-row_other n r =
-    row_none n r.0.0.0.0.0.0.0.0.1 r.0.0.0.0.0.0.0.1 r.0.0.0.0.0.0.1 r.0.0.0.0.0.1 r.0.0.0.0.1 r.0.0.0.1 r.0.0.1 r.0.1 r.1
 
 -- so a number is a method's, or has the empty row
 pub row_known : (n : ℕ) → ((1 ≤ n) × (n ≤ method_last)) ⊎ (no_row ≡ row_of n)

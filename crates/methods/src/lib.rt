@@ -1,13 +1,13 @@
 // The table of methods (SPECIFICATION 5.1), a row for each number, with the sizes and rules of its exchange: its columns, and the form of a public
 // value. The rows themselves are in specs/Rows.antt.
-#![tactic(auto)]
+#![tactic(auto, unfolding(crate::specs::Rows::row_of, crate::specs::Rows::rows, crate::specs::Form::length_fits, crate::specs::Form::lead_fits, crate::specs::Form::formed))]
 
 ghost use Rattle.std.specs.Prelude.{◌≡◌};
 ghost use Rattle.methods.specs.Rows.{hybrid, row_of};
 ghost use Rattle.methods.specs.Form.{length_fits, lead_fits, formed};
 
 // How K stands in the hash input: X as an mpint, or a hybrid's digest as a string.
-#[derive(Clone, Copy)]
+#[derive(Clone, Copy, PartialEq, Eq)]
 pub enum KForm {
     Mpint,
     Digest,
@@ -22,6 +22,7 @@ pub struct Shape {
 }
 
 // A method's row, for the specifications alone. The name stands at the array's beginning, zeros after it. Number 0 is no method.
+// Its form, the name's length and the number in it, stays: `row` of specs/Rows.antt and the theorems over `rows` hold it.
 #[derive(Clone, Copy)]
 pub struct Method {
     pub number: u8,
@@ -35,15 +36,15 @@ pub struct Method {
     pub digest_len: usize,
 }
 
-// ---- the table's columns, each by its number: a row by value is large
+// ---- the table's columns, each by its number: a row by value is large. A `static` of rows that are lent proves too, and is no plainer: a row takes
+// eleven lines there, a value of a column one arm here. A method is a number, and every number is answered: the C interface and the lent bytes need it.
 
 // How long C is.
 fn c_len(number: u8) -> usize
     ensures { result ≡ (row_of number).c.len }
 {
     match number {
-        1 => 32,
-        2 => 32,
+        1 | 2 => 32,
         3 => 56,
         4 => 65,
         5 => 97,
@@ -60,15 +61,8 @@ fn c_classical(number: u8) -> usize
     ensures { result ≡ (row_of number).c.classical }
 {
     match number {
-        1 => 0,
-        2 => 0,
-        3 => 0,
-        4 => 0,
-        5 => 0,
-        6 => 0,
-        7 => 1184,
+        7 | 9 => 1184,
         8 => 1568,
-        9 => 1184,
         _ => 0,
     }
 }
@@ -78,8 +72,7 @@ fn s_len(number: u8) -> usize
     ensures { result ≡ (row_of number).s.len }
 {
     match number {
-        1 => 32,
-        2 => 32,
+        1 | 2 => 32,
         3 => 56,
         4 => 65,
         5 => 97,
@@ -96,15 +89,8 @@ fn s_classical(number: u8) -> usize
     ensures { result ≡ (row_of number).s.classical }
 {
     match number {
-        1 => 0,
-        2 => 0,
-        3 => 0,
-        4 => 0,
-        5 => 0,
-        6 => 0,
-        7 => 1088,
+        7 | 9 => 1088,
         8 => 1568,
-        9 => 1088,
         _ => 0,
     }
 }
@@ -113,18 +99,7 @@ fn s_classical(number: u8) -> usize
 fn is_point(number: u8) -> bool
     ensures { (result ≡ (row_of number).c.point) × (result ≡ (row_of number).s.point) }
 {
-    match number {
-        1 => false,
-        2 => false,
-        3 => false,
-        4 => true,
-        5 => true,
-        6 => true,
-        7 => true,
-        8 => true,
-        9 => false,
-        _ => false,
-    }
+    matches!(number, 4..=8)
 }
 
 // The shape of C.
@@ -138,7 +113,7 @@ pub fn c_shape(number: u8) -> Shape
     }
 }
 
-// The shape of S.
+// The shape of S. One function for both sides is no plainer: the side would go into two columns as well.
 pub fn s_shape(number: u8) -> Shape
     ensures { result ≡ (row_of number).s }
 {
@@ -154,15 +129,10 @@ pub fn x_len(number: u8) -> usize
     ensures { result ≡ (row_of number).x_len }
 {
     match number {
-        1 => 32,
-        2 => 32,
+        1 | 2 | 4 | 7 | 9 => 32,
         3 => 56,
-        4 => 32,
-        5 => 48,
+        5 | 8 => 48,
         6 => 66,
-        7 => 32,
-        8 => 48,
-        9 => 32,
         _ => 0,
     }
 }
@@ -172,15 +142,7 @@ pub fn k_form(number: u8) -> KForm
     ensures { result ≡ (row_of number).k_form }
 {
     match number {
-        1 => KForm::Mpint,
-        2 => KForm::Mpint,
-        3 => KForm::Mpint,
-        4 => KForm::Mpint,
-        5 => KForm::Mpint,
-        6 => KForm::Mpint,
-        7 => KForm::Digest,
-        8 => KForm::Digest,
-        9 => KForm::Digest,
+        7..=9 => KForm::Digest,
         _ => KForm::Mpint,
     }
 }
@@ -189,18 +151,7 @@ pub fn k_form(number: u8) -> KForm
 pub fn zero_check(number: u8) -> bool
     ensures { result ≡ (row_of number).zero_check }
 {
-    match number {
-        1 => true,
-        2 => true,
-        3 => true,
-        4 => false,
-        5 => false,
-        6 => false,
-        7 => false,
-        8 => false,
-        9 => true,
-        _ => false,
-    }
+    matches!(number, 1..=3 | 9)
 }
 
 // How long the method's digest is.
@@ -208,15 +159,9 @@ pub fn digest_len(number: u8) -> usize
     ensures { result ≡ (row_of number).digest_len }
 {
     match number {
-        1 => 32,
-        2 => 32,
-        3 => 64,
-        4 => 32,
-        5 => 48,
-        6 => 64,
-        7 => 32,
-        8 => 48,
-        9 => 32,
+        1 | 2 | 4 | 7 | 9 => 32,
+        5 | 8 => 48,
+        3 | 6 => 64,
         _ => 0,
     }
 }
@@ -225,10 +170,7 @@ pub fn digest_len(number: u8) -> usize
 pub fn is_hybrid(form: KForm) -> bool
     ensures { result ≡ hybrid form }
 {
-    match form {
-        KForm::Mpint => false,
-        KForm::Digest => true,
-    }
+    form == KForm::Digest
 }
 
 // Whether a public value of this shape may have n bytes.
@@ -242,24 +184,12 @@ pub fn length_fits(h: Shape, n: usize) -> bool
 pub fn lead_fits(h: Shape, value: &[u8]) -> bool
     ensures { result ≡ lead_fits h value.now }
 {
-    if !h.point {
-        return true;
-    }
-    let at = h.classical;
-    if at < value.len() {
-        value[at] == 4
-    } else {
-        false
-    }
+    !h.point || value.get(h.classical) == Some(&4)
 }
 
 // Whether a public value has this shape: its length, and then its lead byte.
 pub fn has_form(h: Shape, value: &[u8]) -> bool
     ensures { result ≡ formed h value.now }
 {
-    if length_fits(h, value.len()) {
-        lead_fits(h, value)
-    } else {
-        false
-    }
+    length_fits(h, value.len()) && lead_fits(h, value)
 }

@@ -4,43 +4,21 @@ use mathlib.Core.Path.{◌≡◌, refl, ap, ◌∙◌}
 use mathlib.Core.List.{List, [], ◌∷◌}
 use mathlib.Core.Bool.{Bool, true, false, cond, false≢true}
 use native.Mathlib.Omega.{arith}
-use lib.ListN.{length, get_or, drop, length-drop}
-use lib.Seq.{drop-drop}
-use lib.Dec.{ltb, leb, eqb}
-use lib.IntN.{pos, negsuc}
+use lib.ListN.{length, drop}
+use borrow.Author.Rules.{rules}
+use Rattle.std.specs.Prelude.{Result, Ok, Err, pos}
+use Rattle.std.specs.Result.{ResultUnwrapsOrElse}
+use Rattle.limits.specs.declared.Refusal.{Refusal}
+use Rattle.wire.specs.Parts.{nothing}
+use Rattle.mpint.specs.Mpint.{mpint_told}
+use Rattle.mpint.specs.declared.MpintAndRest.{MpintAndRest}
+use Rattle.mpint.specs.contracts.MpintAndRestDefault.TheImpl.{is_default-value as AllAreDefault}
 use Rattle.buffers.specs.Bytes.{Bytes}
 use Rattle.wire.specs.Strings.{whole, read_string}
 use Rattle.buffers.proofs.ByteLaws.{bytes_tail}
 use Rattle.wire.proofs.StringLaws.{read_within}
 use Rattle.mpint.specs.Mpint.{excess, shortest, sign_of, body_of, mpint_refused, read_mpint}
-use Rattle.mpint.specs.declared.MpintRead.{MpintRead}
-
--- ---- excess
-
-pub excess_none : (s : List ℕ) → length s ≡ 0 → false ≡ excess s
-excess_none [] h = refl
-excess_none (a ∷ r) h = let z : ⊥ = omega arith in absurd z
-
-pub excess_one : (s : List ℕ) → length s ≡ 1 → eqb (get_or s 0 0) 0 ≡ excess s
-excess_one [] h = let z : ⊥ = omega arith in absurd z
-excess_one (a ∷ []) h = refl
-excess_one (a ∷ b ∷ r) h = let z : ⊥ = omega arith in absurd z
-
-pub excess_two : (s : List ℕ) → 2 ≤ length s
-    → excess s ≡ cond (eqb (get_or s 0 0) 0) (ltb (get_or s 1 0) 128) (cond (eqb (get_or s 0 0) 255) (leb 128 (get_or s 1 0)) false)
-excess_two [] h = let z : ⊥ = omega arith in absurd z
-excess_two (a ∷ []) h = let z : ⊥ = omega arith in absurd z
-excess_two (a ∷ b ∷ r) h = refl
-
--- ---- sign_of
-
-pub sign_none : (s : List ℕ) → length s ≡ 0 → pos 0 ≡ sign_of s
-sign_none [] h = refl
-sign_none (a ∷ r) h = let z : ⊥ = omega arith in absurd z
-
-pub sign_some : (s : List ℕ) → 0 < length s → sign_of s ≡ cond (ltb (get_or s 0 0) 128) (pos 1) (negsuc 0)
-sign_some [] h = let z : ⊥ = omega arith in absurd z
-sign_some (a ∷ r) h = refl
+use Rattle.mpint.specs.Mpint.{MpintRead}
 
 -- ---- shortest
 
@@ -53,12 +31,6 @@ pub shortest_done : (l : List ℕ) → excess l ≡ false → shortest l ≡ l
 unfolding shortest
 shortest_done [] e = refl
 shortest_done (a ∷ r) e = rw e
-
--- one byte further on, where the one before is not needed
-pub shortest_at : (l : List ℕ) (i : ℕ) → excess (drop i l) ≡ true → (i < length l) × (shortest (drop i l) ≡ shortest (drop (i + 1) l))
-shortest_at l i e =
-    let m = shortest_more (drop i l) e in
-    (omega (arith, m.0, length-drop i l), m.1 ∙ ap shortest (drop-drop 1 i l))
 
 pub length_shortest : (l : List ℕ) → length (shortest l) ≤ length l
 unfolding shortest
@@ -129,3 +101,20 @@ module _ (s : List ℕ) where
       by_test true true h = (omega arith, omega arith)
       by_test true false h = h
       by_test false u h = (omega arith, omega arith)
+
+  -- what a caller takes of an answer, empty parts and no sign where it is a refusal
+  pub parts_found : (r : Result MpintAndRest Refusal) (v : MpintAndRest) → ResultUnwrapsOrElse r AllAreDefault.it v → mpint_told r ≡ read_mpint s
+      → (v.body ≡ (read_mpint s).body) × (v.rest ≡ (read_mpint s).rest) × (v.sign ≡ (read_mpint s).sign)
+  parts_found (Ok x) v h e = (
+    ap (λ (y : MpintAndRest). y.body) h ∙ ap (λ (y : MpintRead). y.body) e,
+    ap (λ (y : MpintAndRest). y.rest) h ∙ ap (λ (y : MpintRead). y.rest) e,
+    ap (λ (y : MpintAndRest). y.sign) h ∙ ap (λ (y : MpintRead). y.sign) e,
+  )
+  parts_found (Err f) v h e =
+      let b : v.body ≡ nothing = search rules in
+      let t : v.rest ≡ nothing = search rules in
+      let g : v.sign ≡ pos 0 = search rules in (
+        b ∙ ap (λ (x : MpintRead). x.body) e,
+        t ∙ ap (λ (x : MpintRead). x.rest) e,
+        g ∙ ap (λ (x : MpintRead). x.sign) e,
+      )

@@ -9,7 +9,7 @@ use Rattle.limits.specs.Limits.{string_most}
 use Rattle.buffers.specs.Bytes.{Bytes}
 use Rattle.wire.specs.Parts.{part, bytes_at}
 use Rattle.wire.specs.Strings.{string, read_string}
-use Rattle.wire.specs.declared.StringRead.{StringRead}
+use Rattle.wire.specs.Strings.{StringRead}
 use Rattle.wire.proofs.StringLaws.{read_found}
 use Rattle.wire.proofs.RoundTrip.{whole_string, string_complete, body_string, string_sound}
 use Rattle.writers.specs.Writers.{front, string_cause}
@@ -17,7 +17,7 @@ use Rattle.writers.proofs.WriterLaws.{writer_front, string_fits}
 use Rattle.writers.proofs.RoundTrip.{written_most, body_most, string_again}
 use Rattle.mpint.specs.Mpint.{excess, sign_of, shortest, mpint, body_of, read_mpint}
 use Rattle.mpint.specs.Value.{value, sgn}
-use Rattle.mpint.specs.declared.MpintRead.{MpintRead}
+use Rattle.mpint.specs.Mpint.{MpintRead}
 use Rattle.mpint.proofs.MpintLaws.{shortest_done, shortest_shortest, shortest_bytes, mpint_found, mpint_zero}
 use Rattle.mpint.proofs.ValueLaws.{value_shortest, sgn_value}
 

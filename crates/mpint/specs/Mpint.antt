@@ -1,9 +1,19 @@
 -- The SSH mpint: a string whose body is the shortest two's complement, the highest byte first; zero has an empty body
 -- (RFC 4251, section 5). Assumes nothing.
-use Rattle.std.specs.Prelude.{ℕ, List, [], ◌∷◌, Bool, false, cond, ℤ, pos, negsuc, ltb, leb, eqb}
+use Rattle.std.specs.Prelude.{ℕ, List, [], ◌∷◌, Bool, false, Result, Ok, Err, cond, ℤ, pos, negsuc, ltb, leb, eqb}
+use Rattle.limits.specs.Refusals.{number_of}
+use Rattle.limits.specs.declared.Refusal.{Refusal}
 use Rattle.wire.specs.Parts.{nothing, bytes_at}
 use Rattle.wire.specs.Strings.{string, whole, read_string}
-use Rattle.mpint.specs.declared.MpintRead.{MpintRead}
+use Rattle.wire.specs.declared.Part.{Part}
+use Rattle.mpint.specs.declared.MpintAndRest.{MpintAndRest}
+
+-- the mpint at the front of an input: 0 with its sign, its body and what follows it, or 12 or 22
+pub record MpintRead : Type 0 where
+  pub number : ℕ
+  pub sign : ℤ
+  pub body : Part
+  pub rest : Part
 
 -- whether two's complement bytes stay the same number without the first: it is 00 or ff, and the next bit says so again
 abbrev pub excess : List ℕ → Bool
@@ -32,6 +42,11 @@ body_of s = bytes_at s (read_string s).body
 -- a refusal: no sign, and empty parts
 abbrev pub mpint_refused : ℕ → MpintRead
 mpint_refused n = record { number = n; sign = pos 0; body = nothing; rest = nothing }
+
+-- the same by what a reader answers
+abbrev pub mpint_told : Result MpintAndRest Refusal → MpintRead
+mpint_told (Ok r) = record { number = 0; sign = r.sign; body = r.body; rest = r.rest }
+mpint_told (Err e) = mpint_refused (number_of e)
 
 -- the mpint at the front: 12 where it passes the end, then 22 where its body could be shorter
 unfoldable pub read_mpint : List ℕ → MpintRead

@@ -12,10 +12,16 @@ use Rattle.wire.specs.Parts.{part, nothing, bytes_at}
 use Rattle.wire.specs.declared.Part.{Part}
 use Rattle.limits.proofs.BoolLaws.{and_true}
 use Rattle.limits.specs.Every.{every}
+use Rattle.limits.specs.Refusals.{told}
+use Rattle.limits.specs.declared.Refusal.{Refusal}
+use Rattle.std.specs.Prelude.{Result, Ok, Err}
+use Rattle.std.specs.Result.{is_ok}
+use mathlib.Core.Logic.{◌⊎◌, inl, inr}
 use Rattle.names.specs.Names.{good_name, good_list, first_name, later_names, parted, names_of, up_to_bad}
 use Rattle.names.specs.Cursor.{exhausted, cursor_of, ahead, yield, next_name, bad_name, names_cause}
 use Rattle.names.specs.declared.Cursor.{Cursor}
-use Rattle.names.specs.declared.Next.{Next}
+use Rattle.names.specs.Next.{Next}
+use Rattle.limits.proofs.RefusalLaws.{number_some}
 use Rattle.names.proofs.NameLaws.{first_within, take_first, later_some, later_none, names_some}
 
 -- ---- ahead
@@ -104,21 +110,37 @@ module _ (s : List ℕ) (c : Cursor) where
   unfolding next_name
   no_name e = ap (yield c) (sym e)
 
-  pub name_found : (n : List ℕ) (ns : List (List ℕ)) → ahead s c ≡ n ∷ ns → good_name n ≡ true → (stop : ℕ) → stop ≡ c.at + length n
-      → ◌≡◌ {A = Next} (record { number = 0; found = true; name = part c.at (stop - c.at); cursor = record { at = stop + 1; end = c.end } }) (next_name s c)
-  unfolding next_name
-  name_found n ns e g stop h =
-      let m : stop - c.at ≡ length n = omega arith in
-      (λ i. record { number = 0; found = true; name = part c.at (m i); cursor = record { at = h i + 1; end = c.end } })
-      ∙ sym (ap (λ (t : Bool). cond t (record { number = 0; found = true; name = part c.at (length n); cursor = record { at = c.at + length n + 1; end = c.end } }) (record { number = 19; found = false; name = nothing; cursor = c })) g)
-      ∙ ap (yield c) (sym e)
+  pub none_ahead : (c.end < c.at) ⊎ (length s < c.end) → ◌≡◌ {A = Next} (record { number = 0; found = false; name = nothing; cursor = c }) (next_name s c)
+  none_ahead (inl h) = no_name (ahead_end s c h)
+  none_ahead (inr h) = no_name (ahead_past s c h)
 
-  pub name_bad : (n : List ℕ) (ns : List (List ℕ)) → ahead s c ≡ n ∷ ns → good_name n ≡ false
-      → ◌≡◌ {A = Next} (record { number = 19; found = false; name = nothing; cursor = c }) (next_name s c)
+-- a cursor whose text is t, and the first name in it
+module _ (s : List ℕ) (c : Cursor) (t : List ℕ) (len : ℕ) (h : c.at ≤ c.end) (k : c.end ≤ length s) (is : t ≡ take (c.end - c.at) (drop c.at s)) (n : len ≡ length (first_name t)) where
+  pub name_fits : c.at + len ≤ c.end
+  name_fits = let f = first_fits s c.at c.end k h in omega (arith, ap (λ (x : List ℕ). length (first_name x)) is)
+
+  pub name_length : len ≡ length (take len t)
+  name_length = let f = first_within t in sym (length-take-le len t (omega arith))
+
+  name_read : take len t ≡ first_name t
+  name_read = ap (λ (m : ℕ). take m t) n ∙ take_first t
+
+  names_ahead : ahead s c ≡ take len t ∷ later_names t
+  names_ahead = ahead_is s c k h ∙ ap parted (sym is) ∙ ap (λ (x : List ℕ). x ∷ later_names t) (sym name_read)
+
+  yields_if : (g : Bool) → good_name (take len t) ≡ g
+      → ◌≡◌ {A = Next} (cond g (record { number = 0; found = true; name = part c.at len; cursor = record { at = c.at + len + 1; end = c.end } }) (record { number = 19; found = false; name = nothing; cursor = c })) (next_name s c)
   unfolding next_name
-  name_bad n ns e g =
-      sym (ap (λ (t : Bool). cond t (record { number = 0; found = true; name = part c.at (length n); cursor = record { at = c.at + length n + 1; end = c.end } }) (record { number = 19; found = false; name = nothing; cursor = c })) g)
-      ∙ ap (yield c) (sym e)
+  yields_if g e =
+      (λ i. cond (sym e i) (record { number = 0; found = true; name = part c.at (name_length i); cursor = record { at = c.at + name_length i + 1; end = c.end } }) (record { number = 19; found = false; name = nothing; cursor = c }))
+      ∙ ap (yield c) (sym names_ahead)
+
+  pub name_found : good_name (take len t) ≡ true
+      → ◌≡◌ {A = Next} (record { number = 0; found = true; name = part c.at len; cursor = record { at = c.at + len + 1; end = c.end } }) (next_name s c)
+  name_found e = yields_if true e
+
+  pub name_bad : good_name (take len t) ≡ false → ◌≡◌ {A = Next} (record { number = 19; found = false; name = nothing; cursor = c }) (next_name s c)
+  name_bad e = yields_if false e
 
 -- what a cursor that found a name tells
 pub record Found (s : List ℕ) (c : Cursor) (r : Next) : Type 0 where
@@ -219,14 +241,16 @@ good_none [] h = refl
 good_none (a ∷ s) h = let w : ⊥ = omega arith in absurd w
 
 -- a list that a cursor over all of it judges
-pub good_judged : (s : List ℕ) (k : ℕ) → (length s ≡ 0 → ⊥) → k ≡ names_cause s (record { at = 0; end = length s }) → eqb k 0 ≡ good_list s
+pub good_judged : (s : List ℕ) (r : Result Unit Refusal) → eqb (length s) 0 ≡ false → told r ≡ names_cause s (record { at = 0; end = length s }) → is_ok r ≡ good_list s
 unfolding names_cause
-good_judged s k h e =
+good_judged s r h e =
     let a : ahead s (record { at = 0; end = length s }) ≡ parted s =
     ahead_is s (record { at = 0; end = length s }) (omega arith) (omega arith) ∙ ap parted (take_all (length s - 0) s (omega arith)) in
-    let n = names_some s (some (length s) (length s) h refl) in
-    ap (λ (j : ℕ). eqb j 0) (e ∙ ap bad_name (a ∙ sym n)) ∙ by_test (good_list s)
+    let n = names_some s (some (length s) (length s) (eqb-false (length s) 0 h) refl) in
+    by_test (good_list s) r (e ∙ ap bad_name (a ∙ sym n))
   where
-    by_test : (t : Bool) → eqb (cond t 0 19) 0 ≡ t
-    by_test true = refl
-    by_test false = refl
+    by_test : (t : Bool) (x : Result Unit Refusal) → told x ≡ cond t 0 19 → is_ok x ≡ t
+    by_test true (Ok u) k = refl
+    by_test false (Ok u) k = let w : ◌≡◌ {A = ℕ} 0 19 = k in let z : ⊥ = omega arith in absurd z
+    by_test true (Err f) k = absurd (number_some f k)
+    by_test false (Err f) k = refl

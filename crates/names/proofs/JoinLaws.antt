@@ -72,7 +72,7 @@ parted_more (b ∷ n) l h =
     let a = and_true (name_byte b) (every name_byte n) h in
     parted_cons b (n ++ 44 ∷ l) a.0 ∙ ap (cons_first b) (parted_more n l a.1)
 
-good_known : (n : List ℕ) → good_name n ≡ true → (1 ≤ length n) × (every name_byte n ≡ true)
+pub good_known : (n : List ℕ) → good_name n ≡ true → (1 ≤ length n) × (every name_byte n ≡ true)
 unfolding good_name
 good_known n h =
     let a = and_true (within 1 name_most (length n)) (every name_byte n) h in

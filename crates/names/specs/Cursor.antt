@@ -5,7 +5,7 @@ use Rattle.wire.specs.Parts.{part, nothing}
 use Rattle.wire.specs.declared.Part.{Part}
 use Rattle.names.specs.Names.{good_name, parted}
 use Rattle.names.specs.declared.Cursor.{Cursor}
-use Rattle.names.specs.declared.Next.{Next}
+use Rattle.names.specs.Next.{Next}
 
 -- a cursor that has nothing ahead
 abbrev pub exhausted : Cursor

@@ -1,3 +1,4 @@
 pub mod Names
+pub mod Next
 pub mod Cursor
 pub mod Run

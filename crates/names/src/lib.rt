@@ -1,141 +1,98 @@
 // The SSH name-list (RFC 4251, section 5): names parted by single commas, read one at a time by a cursor that goes by value.
 #![tactic(auto)]
 
-ghost use Rattle.std.specs.Prelude.{◌≡◌, ◌+◌, ◌-◌, ◌≤◌, length, take, drop};
-ghost use Rattle.names.specs.Names.{good_name, good_list, first_name};
+ghost use Rattle.std.specs.Prelude.{◌≡◌, length};
+ghost use Rattle.limits.specs.Refusals.{told};
+ghost use Rattle.names.specs.Names.{name_byte, good_name, good_list, first_name};
 ghost use Rattle.names.specs.Cursor.{next_name, names_cause};
+ghost use Rattle.names.specs.Next.{next_told};
 
+use limits::Refusal;
 use wire::Part;
 
 // A place in a list: the next name begins at `at`, and the list ends at `end`. Behind the last name `at` is past `end`, so that the
-// empty name after a trailing comma is still ahead.
-#[derive(Clone, Copy)]
+// empty name after a trailing comma is still ahead. No iterator: the C interface needs a cursor that goes in and comes back.
+#[derive(Clone, Copy, PartialEq)]
 pub struct Cursor {
     pub at: usize,
     pub end: usize,
 }
 
-// What a cursor finds: 0 with a name's place and the cursor behind it; at the end 0 and the same cursor; at a bad name 19
-// and the same cursor.
-#[derive(Clone, Copy)]
-pub struct Next {
-    pub number: u8,
-    pub found: bool,
+// The cursor of a list without bytes, which has no name. No Option: the C interface needs its two numbers.
+pub const NOTHING_AHEAD: Cursor = Cursor { at: 1, end: 0 };
+
+// A name that a cursor found: its place, and the cursor behind it and its comma.
+#[derive(Clone, Copy, PartialEq)]
+pub struct Named {
     pub name: Part,
     pub cursor: Cursor,
+}
+
+const COMMA: u8 = 44;
+
+// Whether a byte may stand in a name.
+fn name_byte(b: u8) -> bool
+    ensures { result ≡ name_byte b }
+{
+    matches!(b, 33..=126) && b != COMMA
 }
 
 // Whether s is a name: 1 to 64 bytes, each 33 to 126 and no comma.
 pub fn good_name(s: &[u8]) -> bool
     ensures { result ≡ good_name s.now }
 {
-    if s.len() < 1 {
-        return false;
-    }
-    if limits::NAME_MOST < s.len() {
-        return false;
-    }
-    let mut i = 0;
-    while i < s.len() {
-        if s[i] < 33 {
-            return false;
-        }
-        if 126 < s[i] {
-            return false;
-        }
-        if s[i] == 44 {
-            return false;
-        }
-        i += 1;
-    }
-    true
+    limits::in_range(1, limits::NAME_MOST, s.len()) && s.iter().all(|b| name_byte(*b))
 }
 
-// Where the name that begins at `at` ends: at the first comma, else at the list's end.
-fn name_end(s: &[u8], at: usize, end: usize) -> usize
-    requires { (at ≤ end) × (end ≤ length s.now) }
-    ensures { result ≡ at + length (first_name (take (end - at) (drop at s.now))) }
+// How long the first name of a text is: up to the first comma, else to the text's end.
+fn first_len(text: &[u8]) -> usize
+    ensures { result ≡ length (first_name text.now) }
 {
-    let mut i = at;
-    while i < end {
-        if s[i] == 44 {
-            return i;
-        }
-        i += 1;
-    }
-    i
+    text.iter().position(|b| *b == COMMA).unwrap_or(text.len())
 }
 
-// The next name of a list, or its end, or 19.
-pub fn next_name(s: &[u8], c: Cursor) -> Next
-    ensures { result ≡ next_name s.now c }
+// The next name of a list; none at its end, and where its end passes the payload's; or that it is bad.
+pub fn next_name(s: &[u8], c: Cursor) -> Result<Option<Named>, Refusal>
+    ensures { next_told c result ≡ next_name s.now c }
 {
-    let at = c.at;
-    let end = c.end;
-    if s.len() < end {
-        return Next {
-            number: 0,
-            found: false,
-            name: Part { start: 0, len: 0 },
-            cursor: c,
-        };
+    let Some(ahead) = s.get(c.at..c.end) else {
+        return Ok(None);
+    };
+    let len = first_len(ahead);
+    if !good_name(&ahead[..len]) {
+        return Err(Refusal::BadName);
     }
-    if end < at {
-        return Next {
-            number: 0,
-            found: false,
-            name: Part { start: 0, len: 0 },
-            cursor: c,
-        };
-    }
-    let stop = name_end(s, at, end);
-    if good_name(&s[at..stop]) {
-        Next {
-            number: 0,
-            found: true,
-            name: Part {
-                start: at,
-                len: stop - at,
-            },
-            cursor: Cursor { at: stop + 1, end },
-        }
-    } else {
-        Next {
-            number: 19,
-            found: false,
-            name: Part { start: 0, len: 0 },
-            cursor: c,
-        }
-    }
+    Ok(Some(Named {
+        name: Part { start: c.at, len },
+        cursor: Cursor {
+            at: c.at + len + 1,
+            end: c.end,
+        },
+    }))
 }
 
-// 0 where every name that a cursor has ahead is good, else 19.
-pub fn judge_names(s: &[u8], c: Cursor) -> u8
-    ensures { result ≡ names_cause s.now c }
+// Whether every name that a cursor has ahead is good. No iterator beside the cursor: at a bad name the walk must end in a refusal, and a cursor that
+// goes by value is what the C interface lends. The walks in `common` go by the same cursor.
+pub fn judge_names(s: &[u8], c: Cursor) -> Result<(), Refusal>
+    ensures { told result ≡ names_cause s.now c }
 {
     let mut at = c;
-    loop {
-        let n = next_name(s, at);
-        if !n.found {
-            return n.number;
-        }
-        let next = n.cursor;
-        at = next;
+    while let Some(n) = next_name(s, at)? {
+        at = n.cursor;
     }
+    Ok(())
 }
 
 // Whether s is a name-list: empty, or good names parted by single commas.
 pub fn good_list(s: &[u8]) -> bool
     ensures { result ≡ good_list s.now }
 {
-    if s.len() == 0 {
+    if s.is_empty() {
         return true;
     }
-    judge_names(
-        s,
-        Cursor {
-            at: 0,
-            end: s.len(),
-        },
-    ) == 0
+    let all = Cursor {
+        at: 0,
+        end: s.len(),
+    };
+    judge_names(s, all).is_ok()
 }

@@ -1,28 +1,20 @@
 -- The parts of INIT and REPLY: a law for each `return`. Assumes nothing.
 use Prim.Native.Nat.{ℕ, ◌+◌, ◌≤◌}
-use mathlib.Core.Path.{◌≡◌, sym, ap, ◌∙◌}
+use mathlib.Core.Path.{◌≡◌, sym}
 use mathlib.Core.List.{List}
 use native.Mathlib.Omega.{arith}
 use lib.ListN.{length}
 use Rattle.wire.specs.Parts.{nothing}
-use Rattle.wire.specs.declared.Part.{Part}
 use Rattle.wire.proofs.StringsLaws.{part_within}
 use Rattle.messages.specs.Messages.{field_part}
 use Rattle.exchange.specs.Numbers.{Kind, accepted, refused, fault, kind, by_kind}
 use Rattle.exchange.specs.Steps.{Call, number, step_part}
 use Rattle.exchange.specs.declared.Exchange.{Exchange}
-use Rattle.exchange.proofs.KindLaws.{kind_accepted, kind_same}
+use Rattle.exchange.proofs.KindLaws.{kind_same}
 
-module _ (e : Exchange) (room : List ℕ) (q : Call) (p : List ℕ) (i n : ℕ) (f : n ≡ number e room q) where
-  -- nothing of a message that is refused
-  pub part_refused : (n ≡ 0 → ⊥) → nothing ≡ step_part e room q p i
-  unfolding step_part
-  part_refused h = sym (kind_same (number e room q) (field_part p i) nothing (λ z. h (f ∙ z)))
-
-  -- string i of one that is accepted
-  pub part_accepted : n ≡ 0 → (r : Part) → r ≡ field_part p i → r ≡ step_part e room q p i
-  unfolding step_part
-  part_accepted h r g = g ∙ ap (λ (t : Kind). by_kind t (field_part p i) nothing nothing) (sym (kind_accepted (number e room q) (sym f ∙ h)))
+-- a refusal has no part
+pub none_refused : (n : ℕ) (p : List ℕ) (i : ℕ) → (n ≡ 0 → ⊥) → nothing ≡ by_kind (kind n) (field_part p i) nothing nothing
+none_refused n p i h = sym (kind_same n (field_part p i) nothing h)
 
 -- accepted or not, the part lies within the payload
 pub step_part_within : (e : Exchange) (room : List ℕ) (q : Call) (p : List ℕ) (i : ℕ) → (step_part e room q p i).start + (step_part e room q p i).len ≤ length p

@@ -16,7 +16,7 @@ use Rattle.limits.proofs.RangeLaws.{within_is}
 use Rattle.buffers.specs.Bytes.{Bytes, onto}
 use Rattle.wire.specs.Parts.{part, bytes_at}
 use Rattle.wire.specs.Strings.{bytes32, number32, number_at, strings, walk, string_part}
-use Rattle.wire.specs.declared.Walk.{Walk}
+use Rattle.wire.specs.Strings.{Walk}
 use Rattle.wire.proofs.CauseLaws.{if_fails, unless_holds, unless_none}
 use Rattle.wire.proofs.RoundTrip.{number32_bytes32, bytes32_number32}
 use Rattle.wire.proofs.StringLaws.{number_at_lem}
@@ -31,8 +31,7 @@ use Rattle.names.specs.declared.Cursor.{Cursor}
 use Rattle.names.proofs.RunLaws.{run_list, run_good}
 use Rattle.names.proofs.NameLaws.{up_to_bad_all}
 use Rattle.names.proofs.JoinLaws.{joined_names}
-use Rattle.kexinit.specs.Reader.{kexinit_layout, kexinit_cause, boolean_at, list_part, head_at, open_head, open_list}
-use Rattle.kexinit.specs.declared.Head.{Head}
+use Rattle.kexinit.specs.Reader.{kexinit_layout, kexinit_cause, boolean_at, list_part, Head, head_at, open_head, open_list}
 use Rattle.kexinit.proofs.ReaderLaws.{head_found, head_number, list_ahead, open_good, open_cursor}
 use Rattle.proposal.specs.Proposal.{Kexinit, kexinit_of, kexinit, write_cause}
 use Rattle.proposal.specs.ReadAs.{ListRead, ReadAs}

@@ -1,10 +1,15 @@
 -- Laws of the writer: its running total, and the message as it is laid piece by piece. Assumes nothing.
 use Prim.Native.Nat.{ℕ, ◌+◌, ◌≤◌, ◌<◌}
 use mathlib.Core.Path.{◌≡◌, refl, sym, ap, ◌∙◌}
-use mathlib.Core.List.{List, [], ◌∷◌, ◌++◌, append_assoc}
-use mathlib.Core.Bool.{Bool, true, false, cond, ◌&&◌}
+use mathlib.Core.List.{List, [], ◌∷◌, ◌++◌}
+use mathlib.Core.Bool.{Bool, true, false, cond, ◌&&◌, false≢true}
 use native.Mathlib.Omega.{arith}
-use lib.ListN.{length, set, length-append, length-set}
+use lib.ListN.{length, get_or, drop, set, length-append, length-set, drop_of_length-le}
+use lib.Seq.{drop-cons}
+use native.Mathlib.Numerals.{add-one}
+use Rattle.std.specs.Borrow.{Bor}
+use Rattle.std.specs.Prelude.{Option, Some, None}
+use Rattle.std.specs.Option.{is_some, unwrap_or}
 use lib.Dec.{leb, eqb}
 use borrow.Author.Tests.{le-leb, lt-leb, leb-true, leb-false, lt-ltb, le-ltb, eq-eqb, ne_eqb}
 use Rattle.limits.specs.Limits.{kexinit_most, cookie_size}
@@ -16,8 +21,8 @@ use Rattle.wire.proofs.CauseLaws.{if_holds, if_fails, unless_holds, unless_fails
 use Rattle.limits.specs.Every.{every}
 use Rattle.names.specs.Names.{good_list}
 use Rattle.proposal.specs.Proposal.{Kexinit, kexinit_of, kexinit, write_cause}
-use Rattle.proposal.specs.Total.{with_list}
-use Rattle.wire.proofs.StringsLaws.{length_strings, strings_append}
+use Rattle.proposal.specs.Total.{bodies, with_list, total, some_total}
+use Rattle.wire.proofs.StringsLaws.{length_strings}
 
 -- ---- one list
 
@@ -34,14 +39,41 @@ module _ (t : ℕ) (l : List ℕ) where
   unfolding with_list
   with_good g e f h = rw (le-leb (t + 4 + length l) kexinit_most h, sym e ∙ f)
 
+-- ---- a total where there is one
+
+pub total_within : (t : ℕ) → t ≤ kexinit_most → Some t ≡ some_total t
+total_within t h = rw (le-leb t kexinit_most h)
+
+pub total_above : (t : ℕ) → kexinit_most < t → None ≡ some_total t
+total_above t h = rw (lt-leb t kexinit_most h)
+
+pub total_none : (t : ℕ) → None ≡ some_total t → kexinit_most < t
+total_none t = by_test (leb t kexinit_most) refl
+  where
+    by_test : (b : Bool) → leb t kexinit_most ≡ b → None ≡ cond b (Some t) None → kexinit_most < t
+    by_test true e h = absurd (false≢true (ap is_some h))
+    by_test false e h = leb-false t kexinit_most e
+
+pub total_some : (n t : ℕ) → Some n ≡ some_total t → (n ≡ t) × (t ≤ kexinit_most)
+total_some n t = by_test (leb t kexinit_most) refl
+  where
+    by_test : (b : Bool) → leb t kexinit_most ≡ b → Some n ≡ cond b (Some t) None → (n ≡ t) × (t ≤ kexinit_most)
+    by_test true e h = (ap (λ (o : Option ℕ). unwrap_or o n) h, leb-true t kexinit_most e)
+    by_test false e h = absurd (false≢true (sym (ap is_some h)))
+
 -- ---- a run of lists
 
--- the running total over a run of lists
-abbrev pub total : ℕ → List (List ℕ) → ℕ
-total t [] = t
-total t (l ∷ ls) = total (with_list t l) ls
+-- the lists that are left from one on
+abbrev pub none_lent : Bor (List ℕ)
+none_lent = record { ref_ptr = (0, 0); now = [] }
 
-total_past : (t : ℕ) (ls : List (List ℕ)) → kexinit_most < t → kexinit_most < total t ls
+pub bodies_left : (s : List (Bor (List ℕ))) (i : ℕ) → i < length s → bodies (drop i s) ≡ (get_or s i none_lent).now ∷ bodies (drop (i + 1) s)
+bodies_left s i h = rw (add-one, drop-cons s i none_lent h)
+
+pub bodies_done : (s : List (Bor (List ℕ))) (i : ℕ) → length s ≤ i → bodies (drop i s) ≡ []
+bodies_done s i h = ap bodies (drop_of_length-le s {i = i} h)
+
+pub total_past : (t : ℕ) (ls : List (List ℕ)) → kexinit_most < t → kexinit_most < total t ls
 total_past t [] h = h
 total_past t (l ∷ ls) h = total_past (with_list t l) ls (omega (arith, with_past t l (omega arith)))
 
@@ -159,51 +191,9 @@ put_laid out at (l ∷ ls) h =
     let m = length_laid out at (string l) in
     put_laid (laid out at (string l)) (at + length (string l)) ls (omega arith) ∙ laid_laid out at (string l) (strings ls) h
 
-pub length_five : (a b c d e : List ℕ)
-    → length (strings (a ∷ b ∷ c ∷ d ∷ e ∷ [])) ≡ length (string a) + length (string b) + length (string c) + length (string d) + length (string e)
-length_five a b c d e =
-    let n1 = length-append (string a) (strings (b ∷ c ∷ d ∷ e ∷ [])) in
-    let n2 = length-append (string b) (strings (c ∷ d ∷ e ∷ [])) in
-    let n3 = length-append (string c) (strings (d ∷ e ∷ [])) in
-    let n4 = length-append (string d) (strings (e ∷ [])) in
-    let n5 = length-append (string e) [] in
-    omega arith
-
--- five lists laid by five calls: the place behind each, and the output after it
-pub five_laid : (out : List ℕ) (at : ℕ) (a b c d e : List ℕ) → at + length (strings (a ∷ b ∷ c ∷ d ∷ e ∷ [])) ≤ length out
-    → (r1 r2 r3 r4 r5 : ℕ) (o1 o2 o3 o4 o5 : List ℕ)
-    → (r1 ≡ at + length (string a)) × (o1 ≡ laid out at (string a))
-    → (r2 ≡ r1 + length (string b)) × (o2 ≡ laid o1 r1 (string b))
-    → (r3 ≡ r2 + length (string c)) × (o3 ≡ laid o2 r2 (string c))
-    → (r4 ≡ r3 + length (string d)) × (o4 ≡ laid o3 r3 (string d))
-    → (r5 ≡ r4 + length (string e)) × (o5 ≡ laid o4 r4 (string e))
-    → (r5 ≡ at + length (strings (a ∷ b ∷ c ∷ d ∷ e ∷ []))) × (o5 ≡ laid out at (strings (a ∷ b ∷ c ∷ d ∷ e ∷ [])))
-five_laid out at a b c d e h r1 r2 r3 r4 r5 o1 o2 o3 o4 o5 e1 e2 e3 e4 e5 =
-    let q2 = e2.0 ∙ ap (λ (k : ℕ). k + length (string b)) e1.0 in
-    let q3 = e3.0 ∙ ap (λ (k : ℕ). k + length (string c)) q2 in
-    let q4 = e4.0 ∙ ap (λ (k : ℕ). k + length (string d)) q3 in
-    let q5 = e5.0 ∙ ap (λ (k : ℕ). k + length (string e)) q4 in
-    let l = a ∷ b ∷ c ∷ d ∷ e ∷ [] in (
-      q5 ∙ behind_is at l,
-      e5.1
-          ∙ (λ i. laid ((e4.1 ∙ (λ i. laid ((e3.1 ∙ (λ i. laid ((e2.1 ∙ (λ i. laid (e1.1 i) (e1.0 i) (string b))) i) (q2 i) (string c))) i) (q3 i) (string d))) i) (q4 i) (string e))
-          ∙ put_laid out at l h,
-    )
-
--- two runs, one after the other
-pub total_two : (a b : List (List ℕ)) (half t : ℕ) → half ≡ total 22 a → t ≡ total half b → t ≡ total 22 (a ++ b)
-total_two a b half t e f = f ∙ ap (λ (n : ℕ). total n b) e ∙ sym (total_append 22 a)
-  where
-    total_append : (n : ℕ) (a : List (List ℕ)) → total n (a ++ b) ≡ total (total n a) b
-    total_append n [] = refl
-    total_append n (l ∷ a) = total_append (with_list n l) a
-
--- and their true sum where the total is at most 4,096
-pub total_runs : (a b : List (List ℕ)) → total 22 (a ++ b) ≤ kexinit_most → total 22 (a ++ b) ≡ 22 + length (strings a) + length (strings b)
-total_runs a b h =
-    let e = (total_good 22 (a ++ b) h).1 in
-    let n = ap length (strings_append a b) ∙ length-append (strings a) (strings b) in
-    omega arith
+-- the true sum where there is a total
+pub total_true : (t : ℕ) (ls : List (List ℕ)) → total t ls ≤ kexinit_most → total t ls ≡ t + length (strings ls)
+total_true t ls h = (total_good t ls h).1
 
 -- ---- the message laid piece by piece
 
@@ -225,27 +215,21 @@ module _ (out : List ℕ) where
       over_one l at a (omega arith) ∙ sym (laid_fits l at (a ∷ []) (omega arith)) ∙ then_laid x (a ∷ []) l at e n h
 
   -- what the writer leaves
-  pub message_laid : (c : List ℕ) (a b : List (List ℕ)) (f : Bool) (r : ℕ) → length c ≡ 16 → 22 + length (strings a) + length (strings b) ≤ length out
-      → (middle end : ℕ) → middle ≡ 17 + length (strings a) → end ≡ middle + length (strings b)
-      → (o1 o2 o3 o4 : List ℕ) → o1 ≡ laid (set out 0 20) 1 c → o2 ≡ laid o1 17 (strings a) → o3 ≡ laid o2 middle (strings b)
-      → o4 ≡ laid (set o3 end (cond f 1 0)) (end + 1) (bytes32 r)
-      → o4 ≡ onto out (kexinit (kexinit_of c (a ++ b) f r))
+  pub message_laid : (c : List ℕ) (l : List (List ℕ)) (f : Bool) (r : ℕ) → length c ≡ 16 → 22 + length (strings l) ≤ length out
+      → (end : ℕ) → end ≡ 17 + length (strings l)
+      → (o1 o2 o3 : List ℕ) → o1 ≡ laid (set out 0 20) 1 c → o2 ≡ laid o1 17 (strings l)
+      → o3 ≡ laid (set o2 end (cond f 1 0)) (end + 1) (bytes32 r)
+      → o3 ≡ onto out (kexinit (kexinit_of c l f r))
   unfolding kexinit
-  message_laid c a b f r h k middle end m n o1 o2 o3 o4 e1 e2 e3 e4 =
+  message_laid c l f r h k end n o1 o2 o3 e1 e2 e3 =
       let x1 : List ℕ = (20 ∷ []) ++ c in
-      let x2 : List ℕ = x1 ++ strings a in
-      let x3 : List ℕ = x2 ++ strings b in
-      let x4 : List ℕ = x3 ++ (cond f 1 0 ∷ []) in
-      let n2 : length x2 ≡ 1 + length c + length (strings a) = length-append x1 (strings a) ∙ omega arith in
-      let n3 : length x3 ≡ 1 + length c + length (strings a) + length (strings b) = length-append x2 (strings b) ∙ omega arith in
-      let n4 : length x4 ≡ 2 + length c + length (strings a) + length (strings b) = length-append x3 (cond f 1 0 ∷ []) ∙ omega arith in
+      let x2 : List ℕ = x1 ++ strings l in
+      let x3 : List ℕ = x2 ++ (cond f 1 0 ∷ []) in
+      let n2 : length x2 ≡ 1 + length c + length (strings l) = length-append x1 (strings l) ∙ omega arith in
+      let n3 : length x3 ≡ 2 + length c + length (strings l) = length-append x2 (cond f 1 0 ∷ []) ∙ omega arith in
       let p0 : set out 0 20 ≡ over out 0 (20 ∷ []) = over_one out 0 20 (omega arith) in
       let p1 : o1 ≡ over out 0 x1 = e1 ∙ then_laid (20 ∷ []) c (set out 0 20) 1 p0 refl (omega arith) in
-      let p2 : o2 ≡ over out 0 x2 = e2 ∙ then_laid x1 (strings a) o1 17 p1 (omega arith) (omega arith) in
-      let p3 : o3 ≡ over out 0 x3 = e3 ∙ then_laid x2 (strings b) o2 middle p2 (omega arith) (omega arith) in
-      let p4 : set o3 end (cond f 1 0) ≡ over out 0 x4 = then_set x3 o3 end (cond f 1 0) p3 (omega arith) (omega arith) in
-      let p5 = e4 ∙ then_laid x4 (bytes32 r) (set o3 end (cond f 1 0)) (end + 1) p4 (omega arith) (omega arith) in
-      let s : x3 ≡ x1 ++ strings (a ++ b) = append_assoc x1 (strings a) (strings b) ∙ ap (λ (x : List ℕ). x1 ++ x) (sym (strings_append a b)) in
-      p5
-      ∙ ap (λ (x : List ℕ). over out 0 (x ++ (cond f 1 0 ∷ []) ++ bytes32 r)) s
-      ∙ over_zero out (x1 ++ strings (a ++ b) ++ (cond f 1 0 ∷ []) ++ bytes32 r)
+      let p2 : o2 ≡ over out 0 x2 = e2 ∙ then_laid x1 (strings l) o1 17 p1 (omega arith) (omega arith) in
+      let p3 : set o2 end (cond f 1 0) ≡ over out 0 x3 = then_set x2 o2 end (cond f 1 0) p2 (omega arith) (omega arith) in
+      e3 ∙ then_laid x3 (bytes32 r) (set o2 end (cond f 1 0)) (end + 1) p3 (omega arith) (omega arith)
+      ∙ over_zero out (x3 ++ bytes32 r)

@@ -1,149 +1,79 @@
 // KEXINIT as it is written (RFC 4253, section 7.1).
 #![tactic(auto)]
 
-ghost use Rattle.std.specs.Prelude.{◌≡◌, [], ◌∷◌, cond, ◌+◌, ◌≤◌, length};
+ghost use Rattle.std.specs.Prelude.{◌≡◌, ◌+◌, ◌≤◌, length};
 ghost use Rattle.buffers.specs.Bytes.{laid};
-ghost use Rattle.wire.specs.Strings.{string, strings};
-ghost use Rattle.writers.specs.Writers.{wrote, leaves};
+ghost use Rattle.wire.specs.Strings.{strings};
+ghost use Rattle.writers.specs.Writers.{written_told, wrote, leaves};
 ghost use Rattle.proposal.specs.Proposal.{kexinit_of, kexinit, write_cause};
-ghost use Rattle.proposal.specs.Total.{with_list};
+ghost use Rattle.proposal.specs.Total.{bodies, with_list, total, some_total};
 
-use writers::Written;
+use limits::Refusal;
 
 // Where the first list goes, behind the message byte and the cookie; and all bytes beside the lists, with the boolean and the reserved number.
 const FIRST_LIST: usize = 1 + limits::COOKIE_SIZE;
 
 const FIXED_BYTES: usize = FIRST_LIST + 5;
 
-// One more byte than a KEXINIT may have.
-const TOO_LONG: usize = limits::KEXINIT_MOST + 1;
-
-// A total with one list more, more than a KEXINIT may have where it passes that or the list is bad: so no sum of lengths can wrap.
-fn with_list(total: usize, list: &[u8]) -> usize
-    ensures { result ≡ with_list total list.now }
+// A total with one list more; none where it passes what a KEXINIT may have or the list is bad.
+fn with_list(total: usize, list: &[u8]) -> Option<usize>
+    ensures { result ≡ some_total (with_list total list.now) }
 {
-    if limits::KEXINIT_MOST < total {
-        return TOO_LONG;
-    }
-    if limits::KEXINIT_MOST < list.len() {
-        return TOO_LONG;
-    }
-    let next = total + 4 + list.len();
-    if limits::KEXINIT_MOST < next {
-        return TOO_LONG;
-    }
-    if names::good_list(list) {
-        next
+    let next = total.checked_add(4)?.checked_add(list.len())?;
+    if next <= limits::KEXINIT_MOST && names::good_list(list) {
+        Some(next)
     } else {
-        TOO_LONG
+        None
     }
 }
 
-// A total with five lists more.
-fn with_five(total: usize, a: &[u8], b: &[u8], c: &[u8], d: &[u8], e: &[u8]) -> usize
-    ensures { result ≡ with_list (with_list (with_list (with_list (with_list total a.now) b.now) c.now) d.now) e.now }
+// How many bytes a KEXINIT of some lists has; none where they are more than it may have or a list is bad.
+fn total_of(lists: &[&[u8]]) -> Option<usize>
+    ensures { result ≡ some_total (total 22 (bodies lists.now)) }
 {
-    let t1 = with_list(total, a);
-    let t2 = with_list(t1, b);
-    let t3 = with_list(t2, c);
-    let t4 = with_list(t3, d);
-    with_list(t4, e)
+    let mut total = FIXED_BYTES;
+    for list in lists {
+        total = with_list(total, list)?;
+    }
+    Some(total)
 }
 
-// Lays a list into an output that it fits, and returns the place behind it.
-fn put_list(out: &mut [u8], at: usize, list: &[u8]) -> usize
-    requires { at + length (string list.now) ≤ length out.old }
-    ensures { (result ≡ at + length (string list.now)) × (out.new ≡ laid out.old at (string list.now)) }
+// Lays lists into an output that they fit, and returns the place behind them.
+fn put_lists(out: &mut [u8], at: usize, lists: &[&[u8]]) -> usize
+    requires { at + length (strings (bodies lists.now)) ≤ length out.old }
+    ensures { (result ≡ at + length (strings (bodies lists.now))) × (out.new ≡ laid out.old at (strings (bodies lists.now))) }
 {
-    writers::put_string(out, at, list);
-    at + 4 + list.len()
+    let mut place = at;
+    for list in lists {
+        writers::put_string(out, place, list);
+        place += 4 + list.len();
+    }
+    place
 }
 
-// Lays five lists into an output that they fit, and returns the place behind them.
-fn put_five(out: &mut [u8], at: usize, a: &[u8], b: &[u8], c: &[u8], d: &[u8], e: &[u8]) -> usize
-    requires { at + length (strings (a.now ∷ b.now ∷ c.now ∷ d.now ∷ e.now ∷ [])) ≤ length out.old }
-    ensures { let l = a.now ∷ b.now ∷ c.now ∷ d.now ∷ e.now ∷ [] in
-        (result ≡ at + length (strings l)) × (out.new ≡ laid out.old at (strings l)) }
-{
-    let a1 = put_list(out, at, a);
-    let a2 = put_list(out, a1, b);
-    let a3 = put_list(out, a2, c);
-    let a4 = put_list(out, a3, d);
-    put_list(out, a4, e)
-}
-
-// Writes a KEXINIT at the beginning of out: 4 for a cookie not of 16 bytes, a bad list or a total above 4,096, then 5.
+// Writes a KEXINIT at the beginning of out: 4 for a cookie not of 16 bytes, a bad list or a total above 4,096, then 5. The lists stand in the
+// message's order: methods, host keys, then encryption, MAC, compression and languages, each client to server first.
 pub fn write_kexinit(
     out: &mut [u8],
     cookie: &[u8],
-    kex: &[u8],
-    host_key: &[u8],
-    cipher_in: &[u8],
-    cipher_out: &[u8],
-    mac_in: &[u8],
-    mac_out: &[u8],
-    compression_in: &[u8],
-    compression_out: &[u8],
-    language_in: &[u8],
-    language_out: &[u8],
+    lists: &[&[u8]; limits::LIST_COUNT],
     follows: bool,
     reserved: u32,
-) -> Written
-    ensures { let k = kexinit_of cookie.now (kex.now ∷ host_key.now ∷ cipher_in.now ∷ cipher_out.now ∷ mac_in.now ∷ mac_out.now ∷ compression_in.now ∷ compression_out.now ∷ language_in.now ∷ language_out.now ∷ []) follows reserved in
-        (result ≡ wrote (write_cause (length out.old) k) (kexinit k)) × (out.new ≡ leaves (write_cause (length out.old) k) (kexinit k) out.old) }
+) -> Result<usize, Refusal>
+    ensures { let k = kexinit_of cookie.now (bodies lists.now) follows reserved in
+        (written_told result ≡ wrote (write_cause (length out.old) k) (kexinit k)) × (out.new ≡ leaves (write_cause (length out.old) k) (kexinit k) out.old) }
 {
     if cookie.len() != limits::COOKIE_SIZE {
-        return Written {
-            number: 4,
-            count: 0,
-        };
+        return Err(Refusal::BadInput);
     }
-    let half = with_five(FIXED_BYTES, kex, host_key, cipher_in, cipher_out, mac_in);
-    let total = with_five(
-        half,
-        mac_out,
-        compression_in,
-        compression_out,
-        language_in,
-        language_out,
-    );
-    if limits::KEXINIT_MOST < total {
-        return Written {
-            number: 4,
-            count: 0,
-        };
-    }
+    let total = total_of(lists).ok_or(Refusal::BadInput)?;
     if out.len() < total {
-        return Written {
-            number: 5,
-            count: 0,
-        };
+        return Err(Refusal::OutputTooShort);
     }
     out[0] = 20;
     buffers::put_bytes(out, 1, cookie);
-    let middle = put_five(
-        out, FIRST_LIST, kex, host_key, cipher_in, cipher_out, mac_in,
-    );
-    let end = put_five(
-        out,
-        middle,
-        mac_out,
-        compression_in,
-        compression_out,
-        language_in,
-        language_out,
-    );
-    out[end] = flag(follows);
+    let end = put_lists(out, FIRST_LIST, lists);
+    out[end] = u8::from(follows);
     writers::put_u32(out, end + 1, reserved as usize);
-    Written {
-        number: 0,
-        count: total,
-    }
-}
-
-// A boolean as it is written.
-fn flag(on: bool) -> u8
-    ensures { result ≡ cond on 1 0 }
-{
-    if on { 1 } else { 0 }
+    Ok(total)
 }

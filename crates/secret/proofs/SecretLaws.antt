@@ -15,19 +15,18 @@ use Rattle.limits.specs.Limits.{string_most, k_size}
 use Rattle.buffers.specs.Bytes.{zeros, over, laid}
 use Rattle.wire.specs.Strings.{bytes32, string}
 use Rattle.buffers.proofs.ByteLaws.{drop_zeros, over_over, laid_fits, length_over}
-use Rattle.wire.specs.declared.StringRead.{StringRead}
+use Rattle.wire.specs.Strings.{StringRead}
 use Rattle.wire.proofs.StringLaws.{length_string}
 use Rattle.wire.proofs.RoundTrip.{string_complete, body_string}
 use Rattle.mpint.specs.Mpint.{shortest}
 use Rattle.mpint.specs.Value.{value, unsigned}
 use Rattle.mpint.proofs.MpintLaws.{shortest_done}
-use Rattle.mpint.specs.declared.MpintRead.{MpintRead}
+use Rattle.mpint.specs.Mpint.{MpintRead}
 use Rattle.mpint.proofs.RoundTrip.{mpint_complete, value_mpint}
 use Rattle.mpint.proofs.ValueLaws.{value_shortest, value_unsigned}
 use Rattle.methods.specs.declared.KForm.{KForm}
 use Rattle.methods.specs.declared.KForm.TheVariants.{Mpint, Digest}
-use Rattle.secret.specs.Secret.{ReadsAs, k_bytes, kept, leading_zeros}
-use Rattle.secret.specs.declared.Secret.{Secret}
+use Rattle.secret.specs.Secret.{Secret, ReadsAs, k_bytes, kept, leading_zeros}
 
 -- ---- leading_zeros
 

@@ -1,17 +1,25 @@
 -- Bytes looked at as one number, the first the lowest: the zero bits below its lowest set bit tell the zero bytes in front. Assumes nothing.
 use Prim.Native.Nat.{ℕ, zero, suc, ◌+◌, ◌*◌, ◌/◌, ◌%◌, ◌^◌, ◌≤◌, ◌<◌}
 use mathlib.Core.Path.{◌≡◌, refl, sym, ap, ◌∙◌}
-use mathlib.Core.List.{List}
+use mathlib.Core.List.{List, [], ◌∷◌}
 use mathlib.Core.Logic.{◌⊎◌, inl, inr}
 use native.Mathlib.Omega.{arith}
 use native.Mathlib.Nat.{add-zero, zero-add, mul-one, mul_assoc, pow-suc, eq-zero-or-pos, lt_irrefl}
 use native.Mathlib.Numerals.{add-one}
-use lib.ListN.{length, get_or, drop}
+use lib.ListN.{length, get_or, take, drop}
+use lib.Seq.{get_or-take}
+use Rattle.std.specs.Int.{w64, from_le_bytes}
+use Rattle.std.specs.List.{position_or_len}
+use Rattle.std.specs.Option.{unwrap_or}
+use Rattle.std.specs.Prelude.{Option, Some, None}
+use lib.Dec.{eqb, ltb, eqb-suc-zero}
+use borrow.Author.Tests.{ltb-false}
+use mathlib.Core.Bool.{Bool, true, false, cond, not}
 use lib.Pow.{mod-pow-add}
 use lib.Count.{count_trailing_zeros, under}
 use Rattle.buffers.specs.Bytes.{Bytes}
 use Rattle.secret.specs.Secret.{leading_zeros}
-use Rattle.secret.proofs.SecretLaws.{zeros_more, zeros_stop}
+use Rattle.secret.proofs.SecretLaws.{zeros_more, zeros_stop, zeros_within}
 
 -- ---- zero bits
 
@@ -96,3 +104,36 @@ module _ (x : List ℕ) (i : ℕ) where
     -- else every eight zero bits below its lowest set bit are one of the zero bytes in front
     pub some_eight : Bytes x → (w ≡ 0 → ⊥) → leading_zeros (drop i x) ≡ count_trailing_zeros 64 w / 8
     some_eight s n = sym here ∙ some_word 0 8 s h (omega (arith, n, is_low)) ∙ ap (λ (v : ℕ). count_trailing_zeros 64 v / 8) (sym is_low)
+
+-- ---- the first eight bytes as std reads them
+
+module _ (s : List ℕ) (w : ℕ) (h : 8 ≤ length s) (e : w ≡ from_le_bytes w64 (take 8 s)) where
+  byte : (i : ℕ) → i < 8 → get_or (take 8 s) i 0 ≡ get_or s i 0
+  byte i k = get_or-take 8 s i 0 k
+
+  is_word : w ≡ low s 0 1 7 * 256 + get_or s 0 0
+  is_word =
+      omega
+      (arith, e, byte 0 (omega arith), byte 1 (omega arith), byte 2 (omega arith), byte 3 (omega arith), byte 4 (omega arith), byte 5 (omega arith), byte 6 (omega arith), byte 7 (omega arith))
+
+  pub zero_word_first : w ≡ 0 → leading_zeros s ≡ 8 + leading_zeros (drop 8 s)
+  zero_word_first z = zero_eight s 0 w h is_word z
+
+  pub some_word_first : Bytes s → (w ≡ 0 → ⊥) → leading_zeros s ≡ count_trailing_zeros 64 w / 8
+  some_word_first b n = some_eight s 0 w h is_word b n
+
+-- ---- a search for the first that is no zero
+
+zeros_counted : (s : List ℕ) → position_or_len (λ b. not (eqb b 0)) s ≡ leading_zeros s
+zeros_counted [] = refl
+zeros_counted (zero ∷ r) = let h = zeros_counted r in omega arith
+zeros_counted (suc a ∷ r) = rw (eqb-suc-zero a)
+
+-- found, or none: all of s
+pub zeros_found : (s : List ℕ) (r : Option ℕ) → r ≡ cond (ltb (position_or_len (λ b. not (eqb b 0)) s) (length s)) (Some (position_or_len (λ b. not (eqb b 0)) s)) None
+    → unwrap_or r (length s) ≡ leading_zeros s
+zeros_found s r e = let n = zeros_counted s in ap (λ (o : Option ℕ). unwrap_or o (length s)) e ∙ by_test (ltb _ (length s)) refl ∙ n
+  where
+    by_test : (t : Bool) → ltb (position_or_len (λ b. not (eqb b 0)) s) (length s) ≡ t → unwrap_or (cond t (Some (position_or_len (λ b. not (eqb b 0)) s)) None) (length s) ≡ position_or_len (λ b. not (eqb b 0)) s
+    by_test true q = refl
+    by_test false q = let a = ltb-false _ _ q in let b = zeros_within s in let c = zeros_counted s in omega arith

@@ -18,7 +18,7 @@ use Rattle.sha_words.proofs.ChainLaws.{length_behind, behind_parts}
 use Rattle.sha_words.proofs.PaddingLaws.{sizes_of_lem}
 use Rattle.sha_words.proofs.ValueLaws.{value_after_parts}
 use Rattle.sha_2.specs.declared.Hash.{Hash}
-use Rattle.sha_2.specs.declared.Fed.{Fed}
+use Rattle.sha_2.specs.Hash.{Fed}
 use Rattle.sha_2.specs.Hash.{fits, waiting, grown, taken, fed}
 use Rattle.sha_2.proofs.StateLaws.{Fitting, fitting, fed_long, fed_taken}
 

@@ -1,48 +1,28 @@
 -- Laws of a hash's state: when it fits, and what feeding and finishing answer then. Assumes nothing.
-use Prim.Native.Nat.{ℕ, ◌+◌, ◌-◌, ◌%◌, ◌≤◌, ◌<◌}
-use mathlib.Core.Path.{◌≡◌, refl, sym, ap, ◌∙◌}
+use Prim.Native.Nat.{ℕ, ◌+◌, ◌%◌, ◌≤◌, ◌<◌}
+use mathlib.Core.Path.{◌≡◌, refl, ap, ◌∙◌}
 use mathlib.Core.List.{List, [], ◌∷◌}
-use mathlib.Core.Bool.{Bool, true, false, ◌&&◌, and-eq-true_iff}
-use mathlib.Core.Logic.{◌⊎◌, ⊎_elim}
+use mathlib.Core.Bool.{true, false, ◌&&◌, and-eq-true_iff}
 use native.Mathlib.Omega.{arith}
 use native.Mathlib.Nat.{mod-lt}
 use lib.Dec.{leb, eqb}
 use lib.ListN.{length, take}
-use borrow.Author.Tests.{le-leb, lt-leb, leb-true, leb-false, eqb-true, ne_eqb}
+use borrow.Author.Tests.{le-leb, lt-leb, leb-true, eqb-true}
 use Rattle.limits.specs.Limits.{hash_most, block_most, h_size}
+use Rattle.limits.specs.declared.Refusal.{Refusal}
+use Rattle.std.specs.Prelude.{Result, Ok, Err}
+use Rattle.std.specs.Result.{result_unwrap_or}
 use Rattle.buffers.specs.Bytes.{zeros}
 use Rattle.sha_words.specs.Words.{Width}
 use Rattle.sha_words.specs.Constants.{known, width_of, initial}
 use Rattle.sha_words.specs.Message.{sized, value_of}
 use Rattle.sha_words.proofs.PaddingLaws.{sizes_of_lem}
 use Rattle.sha_2.specs.declared.Hash.{Hash}
-use Rattle.sha_2.specs.declared.Fed.{Fed}
-use Rattle.sha_2.specs.declared.Digest.{Digest}
-use Rattle.sha_2.specs.Hash.{fresh, initial_value, started, fits, grown, taken, fed, last_value, finished}
-
--- ---- bounds
-
--- a bound, less a part of the sum
-pub leb_moved : (a b n : ℕ) → a ≤ n → leb b (n - a) ≡ leb (a + b) n
-leb_moved a b n h = by_test (leb b (n - a)) refl
-  where
-    by_test : (t : Bool) → leb b (n - a) ≡ t → t ≡ leb (a + b) n
-    by_test true e = sym (le-leb (a + b) n (omega (arith, leb-true b (n - a) e)))
-    by_test false e = sym (lt-leb (a + b) n (omega (arith, leb-false b (n - a) e)))
+use Rattle.sha_2.specs.Hash.{Fed}
+use Rattle.sha_2.specs.Hash.{Digest}
+use Rattle.sha_2.specs.Hash.{fresh, blank, initial_value, started, fits, grown, taken, fed, last_value, finished, digest_of}
 
 -- ---- fits
-
-pub fits_32 : (s : Hash) → s.kind ≡ 32 → fits s ≡ (leb s.total hash_most && eqb s.held (s.total % 64))
-unfolding fits
-fits_32 s e = rw e
-
-pub fits_others : (s : Hash) → (s.kind ≡ 48) ⊎ (s.kind ≡ 64) → fits s ≡ (leb s.total hash_most && eqb s.held (s.total % 128))
-unfolding fits
-fits_others s = ⊎_elim (λ e. rw e) (λ e. rw e)
-
-pub fits_none : (s : Hash) → (s.kind ≡ 32 → ⊥) → (s.kind ≡ 48 → ⊥) → (s.kind ≡ 64 → ⊥) → fits s ≡ false
-unfolding fits
-fits_none s a b c = rw (ne_eqb s.kind 32 a, ne_eqb s.kind 48 b, ne_eqb s.kind 64 c)
 
 -- what it tells
 pub record Fitting (s : Hash) : Type 0 where
@@ -73,12 +53,9 @@ initial_known kind h = rw h
 abbrev made : ℕ → List ℕ → Hash
 made kind v = record { kind = kind; total = 0; held = 0; value = v; tail = zeros block_most }
 
-pub start_unknown : (kind : ℕ) (v : List ℕ) (s : Hash) → known kind ≡ false → v ≡ initial_value kind → s ≡ made 0 v
-    → ◌≡◌ {A = Fed} (record { number = 4; hash = s }) (started kind)
-unfolding started fresh initial_value
-start_unknown kind v s h ev es =
-    let z : v ≡ zeros h_size = ev ∙ rw h in
-    ap (λ (x : Hash). record { number = 4; hash = x }) (es ∙ ap (made 0) z) ∙ rw h
+pub start_unknown : (kind : ℕ) → known kind ≡ false → ◌≡◌ {A = Fed} (record { number = 4; hash = blank }) (started kind)
+unfolding started
+start_unknown kind h = rw h
 
 pub start_known : (kind : ℕ) (v : List ℕ) (s : Hash) → known kind ≡ true → v ≡ initial_value kind → s ≡ made kind v
     → ◌≡◌ {A = Fed} (record { number = 0; hash = s }) (started kind)
@@ -117,3 +94,10 @@ finished_unfit s h = rw h
 pub finished_fit : (s : Hash) → fits s ≡ true → finished s ≡ record { number = 0; bytes = sized h_size (take s.kind (last_value s)) }
 unfolding finished
 finished_fit s h = rw h
+
+-- ---- what is answered
+
+-- a caller who has zeros for a refusal has the record's bytes
+pub digest_or_zeros : (r : Result (List ℕ) Refusal) → result_unwrap_or r (zeros h_size) ≡ (digest_of r).bytes
+digest_or_zeros (Ok b) = refl
+digest_or_zeros (Err e) = refl

@@ -21,8 +21,8 @@ use Rattle.sha_words.proofs.PaddingLaws.{Sizes, sizes_of_lem}
 use Rattle.sha_words.proofs.ValueLaws.{length_word_bytes, value_after_short, value_after_whole, value_after_parts}
 use Rattle.sha_words.proofs.DigestLaws.{length_after, padded_least, kind_most, length_value_of, length_value_after}
 use Rattle.sha_2.specs.declared.Hash.{Hash}
-use Rattle.sha_2.specs.declared.Fed.{Fed}
-use Rattle.sha_2.specs.declared.Digest.{Digest}
+use Rattle.sha_2.specs.Hash.{Fed}
+use Rattle.sha_2.specs.Hash.{Digest}
 use Rattle.sha_2.specs.Hash.{initial_value, fresh, started, fits, grown, waiting, taken, last_value, finished, digested, fed_all, AllTaken, all_of}
 use Rattle.sha_2.proofs.StateLaws.{fitting, initial_known, fed_taken, finished_fit}
 use Rattle.sha_2.proofs.PartLaws.{taken_taken, taken_fits, taken_total}

@@ -1,12 +1,33 @@
 -- A hash that is fed in parts: which states fit, and what starting, feeding and finishing answer (SPECIFICATION 8.2 to 8.5). Assumes nothing.
-use Rattle.std.specs.Prelude.{ℕ, ◌+◌, ◌%◌, ◌≤◌, ◌<◌, ◌≡◌, List, [], ◌∷◌, ◌++◌, Bool, cond, ◌&&◌, length, take, leb, eqb}
+use Rattle.std.specs.Prelude.{ℕ, ◌+◌, ◌%◌, ◌≤◌, ◌<◌, ◌≡◌, List, [], ◌∷◌, ◌++◌, Bool, cond, ◌&&◌, length, take, leb, eqb, Result, Ok, Err}
 use Rattle.limits.specs.Limits.{hash_most, block_most, h_size}
+use Rattle.limits.specs.Refusals.{number_of}
+use Rattle.limits.specs.declared.Refusal.{Refusal}
 use Rattle.buffers.specs.Bytes.{zeros}
 use Rattle.sha_words.specs.Constants.{known, width_of, initial}
 use Rattle.sha_words.specs.Message.{padding, behind, sha2, sized, value_of, value_after}
 use Rattle.sha_2.specs.declared.Hash.{Hash}
-use Rattle.sha_2.specs.declared.Fed.{Fed}
-use Rattle.sha_2.specs.declared.Digest.{Digest}
+
+-- ---- what is answered
+
+-- 0 and the hash started or fed; or 4, and a state that fits nothing or the hash as it was
+pub record Fed : Type 0 where
+  pub number : ℕ
+  pub hash : Hash
+
+-- 0 and the digest, zeros behind it; or 4 and zeros
+pub record Digest : Type 0 where
+  pub number : ℕ
+  pub bytes : List ℕ
+
+-- a hash that is answered; where that is refused, the one that stands
+abbrev pub fed_of : Hash → Result Hash Refusal → Fed
+fed_of stands (Ok h) = record { number = 0; hash = h }
+fed_of stands (Err e) = record { number = number_of e; hash = stands }
+
+abbrev pub digest_of : Result (List ℕ) Refusal → Digest
+digest_of (Ok b) = record { number = 0; bytes = b }
+digest_of (Err e) = record { number = number_of e; bytes = zeros h_size }
 
 -- ---- start
 

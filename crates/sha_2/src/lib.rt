@@ -6,10 +6,13 @@ ghost use Rattle.limits.specs.Limits.{hash_most, block_most, h_size};
 ghost use Rattle.buffers.specs.Bytes.{zeros, laid};
 ghost use Rattle.sha_words.specs.Constants.{known, width_of};
 ghost use Rattle.sha_words.specs.Message.{bytes_of, padding, padded, sized, value_after};
-ghost use Rattle.sha_2.specs.Hash.{fits as fitting, Growing, Ending, initial_value, grown, fed, started, finished, digested};
+ghost use Rattle.sha_2.specs.Hash.{fits as fitting, Growing, Ending, initial_value, blank, grown, fed, fed_of, started, finished, digested, digest_of};
+
+use limits::Refusal;
 
 // A hash that is being fed: its kind, the bytes fed so far, how many of them wait for a whole block, the hash value of the others as bytes
-// (SHA-256 uses the first 32), and what waits; a feed leaves zeros behind that.
+// (SHA-256 uses the first 32), and what waits; a feed leaves zeros behind that. `state_bytes` and the C interface have the kind as a number and both
+// lengths in the state, so these stay; `waiting` is what waits.
 #[derive(Clone, Copy)]
 pub struct Hash {
     pub kind: u8,
@@ -19,30 +22,16 @@ pub struct Hash {
     pub tail: [u8; limits::BLOCK_MOST],
 }
 
-// 0 and the hash started or fed; or 4, and a state that fits nothing or the hash as it was.
-#[derive(Clone, Copy)]
-pub struct Fed {
-    pub number: u8,
-    pub hash: Hash,
-}
-
-// 0 and the digest, zeros behind it; or 4 and zeros.
-#[derive(Clone, Copy)]
-pub struct Digest {
-    pub number: u8,
-    pub bytes: [u8; limits::H_SIZE],
-}
-
 // ---- by kind
+
+// A kind and a hash value go together through what follows. Both are fields of `Hash`, which `state_bytes` lays out, so a struct of the two would only
+// be made for each call and taken apart again.
 
 // The bytes of a block.
 fn block_of(kind: u8) -> usize
     ensures { result ≡ (width_of kind).block }
 {
-    if kind == 32 {
-        return 64;
-    }
-    128
+    if kind == 32 { 64 } else { 128 }
 }
 
 // The hash value after the whole blocks of m.
@@ -55,29 +44,16 @@ fn blocks(kind: u8, value: [u8; limits::H_SIZE], m: &[u8]) -> [u8; limits::H_SIZ
     sha_512::blocks(value, m)
 }
 
-// Whether a state's kind is known and its lengths go together.
-fn fits(s: Hash) -> bool
-    ensures { result ≡ fitting s }
-{
-    let k = s.kind;
-    match k {
-        32 => (s.total <= limits::HASH_MOST) & (s.held == s.total % 64),
-        48 | 64 => (s.total <= limits::HASH_MOST) & (s.held == s.total % 128),
-        _ => false,
-    }
-}
-
 // ---- feed
 
-// Two lists one behind the other in 128 bytes; zeros follow.
+// Two lists one behind the other in 128 bytes; zeros follow. A call of its own: it is needed at four places.
+#[inline(never)]
 fn joined(before: &[u8], part: &[u8]) -> [u8; limits::BLOCK_MOST]
     requires { length before.now + length part.now ≤ block_most }
     ensures { result ≡ sized block_most (before.now ++ part.now) }
 {
     let mut t = [0u8; limits::BLOCK_MOST];
-    buffers::put_bytes(&mut t, 0, before);
-    let at = before.len();
-    buffers::put_bytes(&mut t, at, part);
+    buffers::put_both(&mut t, before, part);
     t
 }
 
@@ -110,44 +86,6 @@ fn absorb(kind: u8, value: [u8; limits::H_SIZE], before: &[u8], part: &[u8]) -> 
     blocks(kind, x, &part[cut..])
 }
 
-// The state with a part taken in. What waits is handed over apart.
-fn grow(s: Hash, before: &[u8], part: &[u8]) -> Hash
-    requires { Growing s before.now part.now }
-    ensures { result ≡ grown s part.now }
-{
-    let kind = s.kind;
-    let value = s.value;
-    let total = s.total + part.len();
-    let held = (before.len() + part.len()) % block_of(kind);
-    Hash {
-        kind,
-        total,
-        held,
-        value: absorb(kind, value, before, part),
-        tail: tail_of(before, part, held),
-    }
-}
-
-// Feeds a part: 4 where the state does not fit, or would be fed more than 65,536 bytes in all.
-pub fn feed(s: Hash, part: &[u8]) -> Fed
-    ensures { result ≡ fed s part.now }
-{
-    if !fits(s) {
-        return Fed { number: 4, hash: s };
-    }
-    let total = s.total;
-    if limits::HASH_MOST - total < part.len() {
-        return Fed { number: 4, hash: s };
-    }
-    if part.len() == 0 {
-        return Fed { number: 0, hash: s };
-    }
-    let held = s.held;
-    let tail = s.tail;
-    let h = grow(s, &tail[0..held], part);
-    Fed { number: 0, hash: h }
-}
-
 // ---- start
 
 // The initial hash values (5.3.3 to 5.3.5).
@@ -175,10 +113,10 @@ const INITIAL_512: [u8; limits::H_SIZE] = [
 pub fn is_known(kind: usize) -> bool
     ensures { result ≡ known kind }
 {
-    (kind == 32) | (kind == 48) | (kind == 64)
+    matches!(kind, 32 | 48 | 64)
 }
 
-// The initial hash value of a kind; zeros where there is none.
+// The initial hash value of a kind; zeros where there is none, as `initial_value` has it.
 fn initial_of(kind: usize) -> [u8; limits::H_SIZE]
     ensures { result ≡ initial_value kind }
 {
@@ -190,35 +128,6 @@ fn initial_of(kind: usize) -> [u8; limits::H_SIZE]
     }
 }
 
-// A hash that was fed nothing; of an unknown kind 4, and a state that fits nothing.
-pub fn start(kind: usize) -> Fed
-    ensures { result ≡ started kind }
-{
-    let value = initial_of(kind);
-    if !is_known(kind) {
-        return Fed {
-            number: 4,
-            hash: made(0, value),
-        };
-    }
-    Fed {
-        number: 0,
-        hash: made(kind as u8, value),
-    }
-}
-
-fn made(kind: u8, value: [u8; limits::H_SIZE]) -> Hash
-    ensures { result ≡ record { kind = kind; total = 0; held = 0; value = value; tail = zeros block_most } }
-{
-    Hash {
-        kind,
-        total: 0,
-        held: 0,
-        value,
-        tail: [0u8; limits::BLOCK_MOST],
-    }
-}
-
 // ---- finish
 
 // Lays the count of bits of total bytes into a block, from `at` on. Three bytes hold it.
@@ -227,10 +136,7 @@ fn put_count(t: &mut [u8], at: usize, total: usize)
     ensures { t.new ≡ laid t.old at (bytes_of 3 (8 * total)) }
 {
     let bits = 8 * total;
-    let more = bits / 256;
-    let most = more / 256;
-    let n = [(most % 256) as u8, (more % 256) as u8, (bits % 256) as u8];
-    buffers::put_bytes(t, at, &n);
+    buffers::put_bytes(t, at, &bits.to_be_bytes()[5..]);
 }
 
 // The hash value after the padding. The padding block is 128 zero bytes before what waits and the bit 1 are laid in; where the count does
@@ -258,48 +164,18 @@ fn cut(value: [u8; limits::H_SIZE], n: usize) -> [u8; limits::H_SIZE]
     requires { n ≤ h_size }
     ensures { result ≡ sized h_size (take n value) }
 {
-    let mut out = [0u8; limits::H_SIZE];
-    buffers::put_bytes(&mut out, 0, &value[0..n]);
-    out
+    buffers::in_zeros(&value[..n])
 }
 
-// The digest: 4 where the state does not fit. The state may be fed on.
-pub fn finish(s: Hash) -> Digest
-    ensures { result ≡ finished s }
-{
-    if !fits(s) {
-        return Digest {
-            number: 4,
-            bytes: [0u8; limits::H_SIZE],
-        };
-    }
-    let kind = s.kind;
-    let value = s.value;
-    let total = s.total;
-    let held = s.held;
-    let tail = s.tail;
-    let v = last(kind, value, &tail[0..held], total);
-    Digest {
-        number: 0,
-        bytes: cut(v, kind as usize),
-    }
-}
-
-// The digest of a and then b: 4 where the kind is unknown or they are more than 65,536 bytes.
-pub fn hash_of(kind: usize, a: &[u8], b: &[u8]) -> Digest
-    ensures { result ≡ digested kind (a.now ++ b.now) }
+// The digest of a and then b, zeros behind it; refused where the kind is unknown or they are more than 65,536 bytes.
+pub fn hash_of(kind: usize, a: &[u8], b: &[u8]) -> Result<[u8; limits::H_SIZE], Refusal>
+    ensures { digest_of result ≡ digested kind (a.now ++ b.now) }
 {
     if !(is_known(kind) & sum_fits(a.len(), b.len())) {
-        return Digest {
-            number: 4,
-            bytes: [0u8; limits::H_SIZE],
-        };
+        return Err(Refusal::BadInput);
     }
     let v = value_of_both(kind as u8, initial_of(kind), a, b);
-    Digest {
-        number: 0,
-        bytes: cut(v, kind),
-    }
+    Ok(cut(v, kind))
 }
 
 // The last hash value of a and then b, padded. What stands behind the whole blocks of a is not copied.
@@ -321,8 +197,100 @@ fn value_of_both(kind: u8, value: [u8; limits::H_SIZE], a: &[u8], b: &[u8]) -> [
 fn sum_fits(a: usize, b: usize) -> bool
     ensures { result ≡ leb (a + b) hash_most }
 {
-    if limits::HASH_MOST < a {
-        return false;
+    a <= limits::HASH_MOST && b <= limits::HASH_MOST - a
+}
+
+// ---- a hash that is fed in parts
+
+impl Hash {
+    // A hash that was fed nothing.
+    fn made(kind: u8, value: [u8; limits::H_SIZE]) -> Hash
+        ensures { result ≡ record { kind = kind; total = 0; held = 0; value = value; tail = zeros block_most } }
+    {
+        Hash {
+            kind,
+            total: 0,
+            held: 0,
+            value,
+            tail: [0u8; limits::BLOCK_MOST],
+        }
     }
-    b <= limits::HASH_MOST - a
+
+    // A state that fits nothing.
+    pub fn blank() -> Hash
+        ensures { result ≡ blank }
+    {
+        Hash::made(0, [0u8; limits::H_SIZE])
+    }
+
+    // A hash that was fed nothing; refused where the kind is unknown.
+    pub fn start(kind: usize) -> Result<Hash, Refusal>
+        ensures { fed_of blank result ≡ started kind }
+    {
+        if !is_known(kind) {
+            return Err(Refusal::BadInput);
+        }
+        Ok(Hash::made(kind as u8, initial_of(kind)))
+    }
+
+    // Whether its kind is known and its lengths go together.
+    fn fits(&self) -> bool
+        ensures { result ≡ fitting self.now }
+    {
+        let size = block_of(self.kind);
+        is_known(self.kind as usize)
+            & (self.total <= limits::HASH_MOST)
+            & (self.held == self.total % size)
+    }
+
+    // The bytes that wait for a whole block.
+    fn waiting(&self) -> &[u8]
+        requires { self.now.held ≤ block_most }
+        ensures { result.now ≡ take self.now.held self.now.tail }
+    {
+        &self.tail[..self.held]
+    }
+
+    // The state with a part taken in. What waits is handed over apart.
+    fn grow(&self, before: &[u8], part: &[u8]) -> Hash
+        requires { Growing self.now before.now part.now }
+        ensures { result ≡ grown self.now part.now }
+    {
+        let held = (before.len() + part.len()) % block_of(self.kind);
+        Hash {
+            kind: self.kind,
+            total: self.total + part.len(),
+            held,
+            value: absorb(self.kind, self.value, before, part),
+            tail: tail_of(before, part, held),
+        }
+    }
+
+    // Feeds a part: refused where the state does not fit, or would be fed more than 65,536 bytes in all.
+    pub fn feed(&self, part: &[u8]) -> Result<Hash, Refusal>
+        ensures { fed_of self.now result ≡ fed self.now part.now }
+    {
+        if !self.fits() {
+            return Err(Refusal::BadInput);
+        }
+        let total = self.total;
+        if limits::HASH_MOST - total < part.len() {
+            return Err(Refusal::BadInput);
+        }
+        if part.is_empty() {
+            return Ok(*self);
+        }
+        Ok(self.grow(self.waiting(), part))
+    }
+
+    // The digest, zeros behind it; refused where the state does not fit. The state may be fed on.
+    pub fn finish(&self) -> Result<[u8; limits::H_SIZE], Refusal>
+        ensures { digest_of result ≡ finished self.now }
+    {
+        if !self.fits() {
+            return Err(Refusal::BadInput);
+        }
+        let v = last(self.kind, self.value, self.waiting(), self.total);
+        Ok(cut(v, self.kind as usize))
+    }
 }

@@ -56,17 +56,6 @@ pub round_done : (p : Width) (m : List ℕ) (v x y : Working) (t : ℕ) → x �
 unfolding rounds_of
 round_done p m v x y t e q = rw add-one (q ∙ rw e)
 
--- ---- hash_after
-
-pub hash_after_none : (p : Width) (s m : List ℕ) → s ≡ hash_after p s m 0
-unfolding hash_after
-hash_after_none p s m = refl
-
-pub block_done : (p : Width) (s m x y : List ℕ) (n i : ℕ) → n ≡ p.block → x ≡ hash_after p s m i
-    → y ≡ next p x (take n (drop (p.block * i) m)) → y ≡ hash_after p s m (i + 1)
-unfolding hash_after
-block_done p s m x y n i k e q = rw add-one (q ∙ rw (k, e))
-
 -- ---- next
 
 pub next_of : (p : Width) (s b m r : List ℕ) (v : Working) → m ≡ schedule p b p.rounds → v ≡ rounds_of p m (working s) p.rounds

@@ -1,5 +1,6 @@
 // What both roles call, by value: the start, the secret, and beginning again. Each hands back its number, its counts and the exchange as it now
-// is, the secret H too: the call on lent bytes, on bytes of its own.
+// is, the secret H too: the call on lent bytes, on bytes of its own. The lines that each begins with stay in each, as in `client`: the proof of a closure
+// for them did not close.
 #![tactic(auto)]
 
 ghost use Rattle.std.specs.Prelude.{◌≡◌, length};
@@ -8,7 +9,8 @@ ghost use Rattle.exchange.specs.Again.{again_answered, again_room};
 
 use exchange::{Classical, Exchange, Kem, SecretStep, Step};
 
-// Starts an exchange: 2, 3, 4, or both V and both I go into the room.
+// Starts an exchange: 2, 3, 4, or both V and both I go into the room. Its parameters, and the secret's, come one by one:
+// demand 3's `Told` and `History` read them in these contracts, each by its place.
 pub fn start(
     role: u8,
     method: u8,
@@ -39,12 +41,11 @@ pub fn take_secret(
     ensures { let q = secret_step cl x.now kem k_pq.now ks.now s.now in
         (result ≡ secret_answered e room.old q) × (room.new ≡ room_after e room.old q) }
 {
-    let mut b = [0u8; limits::EXCHANGE_SIZE];
     let mut h = [0u8; limits::H_SIZE];
-    if !by_value::lay(&mut b, e) {
+    let Some(mut b) = by_value::lay(e) else {
         let step = by_value::not_due(e);
         return SecretStep { step, h };
-    }
+    };
     let mut count = 0u64;
     let n = lent_steps::take_secret(&mut b, room, cl, x, kem, k_pq, ks, s, &mut count, &mut h);
     let step = by_value::answer(n, count, 0, 0, &b);
@@ -55,10 +56,9 @@ pub fn take_secret(
 pub fn again(e: Exchange, room: &mut [u8], method: u8, ic: &[u8], is: &[u8]) -> Step
     ensures { (result ≡ again_answered e (length room.old) method ic.now is.now) × (room.new ≡ again_room e room.old method ic.now is.now) }
 {
-    let mut b = [0u8; limits::EXCHANGE_SIZE];
-    if !by_value::lay(&mut b, e) {
+    let Some(mut b) = by_value::lay(e) else {
         return by_value::not_due(e);
-    }
+    };
     let n = lent_again::again(&mut b, room, method, ic, is);
     by_value::answer(n, 0, 0, 0, &b)
 }

@@ -1,39 +1,16 @@
--- Bytes and the exchanges that they hold: a law for each `return`, and what goes by the bytes. Assumes nothing.
-use Prim.Native.Nat.{ℕ, ◌≤◌, ◌<◌}
-use mathlib.Core.Path.{◌≡◌, refl}
-use mathlib.Core.List.{List}
-use mathlib.Core.Bool.{Bool, true, false, ◌&&◌, false≢true}
-use lib.ListN.{length, get_or}
+-- Bytes and the exchanges that they hold: what goes by their size, and by whether they fit. Assumes nothing.
+use Prim.Native.Nat.{ℕ, ◌-◌, ◌/◌, ◌%◌}
+use mathlib.Core.Path.{◌≡◌, refl, sym, ap, ◌∙◌}
+use mathlib.Core.List.{List, [], ◌∷◌}
+use mathlib.Core.Bool.{Bool, true, false, cond, ◌&&◌, false≢true}
+use native.Mathlib.Omega.{arith}
+use lib.ListN.{length, get_or, take, drop}
 use lib.Dec.{eqb}
-use borrow.Author.Tests.{eq-eqb, ne_eqb, eqb-true, le-leb, lt-leb}
-use Rattle.limits.specs.Limits.{exchange_size, exchange_mark}
-use Rattle.exchange.specs.declared.Stage.TheVariants.{Failed}
-use Rattle.stored.specs.Stored.{stage_of, marks_fit, fits, decoded, by_fit, by_size}
-
--- ---- stage and marks
-
--- no other stage: the exchange failed
-pub stage_failed : (s f : ℕ) → ¬ (s ≡ 0) → ¬ (s ≡ 1) → ¬ (s ≡ 2) → ¬ (s ≡ 3) → ¬ (s ≡ 4) → ¬ (s ≡ 5) → Failed f ≡ stage_of s f
-unfolding stage_of
-stage_failed s f a b c d e g = rw (ne_eqb s 0 a, ne_eqb s 1 b, ne_eqb s 2 c, ne_eqb s 3 d, ne_eqb s 4 e, ne_eqb s 5 g)
-
--- whether mark, stage and fail number are an exchange's
-pub mark_other : (m s f : ℕ) → ¬ (m ≡ exchange_mark) → false ≡ marks_fit m s f
-unfolding marks_fit
-mark_other m s f h = rw (ne_eqb m exchange_mark h)
-
-module _ (m s f : ℕ) (h : m ≡ exchange_mark) where
-  pub stage_above : 6 < s → false ≡ marks_fit m s f
-  unfolding marks_fit
-  stage_above g = rw (h, lt-leb s 6 g)
-
-  pub stage_last : s ≡ 6 → true ≡ marks_fit m s f
-  unfolding marks_fit
-  stage_last g = rw (h, g)
-
-  pub stage_below : s ≤ 6 → ¬ (s ≡ 6) → eqb f 0 ≡ marks_fit m s f
-  unfolding marks_fit
-  stage_below g n = rw (h, le-leb s 6 g, ne_eqb s 6 n)
+use borrow.Author.Tests.{eq-eqb, ne_eqb, eqb-true}
+use Rattle.std.specs.Int.{w64, to_be_bytes}
+use Rattle.buffers.proofs.ByteLaws.{tail_part}
+use Rattle.limits.specs.Limits.{exchange_size}
+use Rattle.stored.specs.Stored.{bytes16, bytes64, marks_fit, fits, decoded, by_fit, by_size}
 
 -- ---- by the size
 pub size_taken : {A : Type 0} (b : List ℕ) (old new : A) → length b ≡ exchange_size → new ≡ by_size b new old
@@ -43,6 +20,15 @@ size_taken b old new h = rw (eq-eqb (length b) exchange_size h)
 pub size_left : {A : Type 0} (b : List ℕ) (old new : A) → ¬ (length b ≡ exchange_size) → old ≡ by_size b new old
 unfolding by_size
 size_left b old new h = rw (ne_eqb (length b) exchange_size h)
+
+-- of an exchange's bytes, what stands behind 164 is the last 64
+pub tail_kept : (b : List ℕ) → by_size b (take 64 (drop 164 b)) [] ≡ by_size b (drop 164 b) []
+unfolding by_size
+tail_kept b = go (eqb (length b) exchange_size) refl
+  where
+    go : (t : Bool) → eqb (length b) exchange_size ≡ t → cond t (take 64 (drop 164 b)) [] ≡ cond t (drop 164 b) []
+    go true e = ap (λ (n : ℕ). take (n - 164) (drop 164 b)) (sym (eqb-true (length b) exchange_size e)) ∙ tail_part b 164
+    go false e = refl
 
 pub fits_known : (b : List ℕ) → fits b ≡ true → (length b ≡ exchange_size) × (marks_fit (get_or b 0 0) (get_or b 1 0) (get_or b 2 0) ≡ true)
 unfolding fits
@@ -80,3 +66,14 @@ size_unfit b h = rw (ne_eqb (length b) exchange_size h)
 pub marks_fits : (b : List ℕ) → length b ≡ exchange_size → marks_fit (get_or b 0 0) (get_or b 1 0) (get_or b 2 0) ≡ fits b
 unfolding fits
 marks_fits b h = rw (eq-eqb (length b) exchange_size h)
+
+-- ---- a number's bytes, as the code takes them
+pub all_eight : (n : ℕ) → to_be_bytes w64 n ≡ bytes64 n
+all_eight n =
+    let b0 : n / 72057594037927936 % 256 ≡ n / 281474976710656 / 256 % 256 = omega arith in
+    let b2 : n / 1099511627776 % 256 ≡ n / 4294967296 / 256 % 256 = omega arith in
+    let b4 : n / 16777216 % 256 ≡ n / 65536 / 256 % 256 = omega arith in
+    λ i. b0 i ∷ n / 281474976710656 % 256 ∷ b2 i ∷ n / 4294967296 % 256 ∷ b4 i ∷ n / 65536 % 256 ∷ n / 256 % 256 ∷ n % 256 ∷ []
+
+pub last_two : (n : ℕ) (b : List ℕ) → b ≡ to_be_bytes w64 n → get_or b 6 0 ∷ get_or b 7 0 ∷ [] ≡ bytes16 n
+last_two n b e = λ i. get_or (e i) 6 0 ∷ get_or (e i) 7 0 ∷ []

@@ -3,9 +3,9 @@
 // step reads of them.
 #![tactic(auto)]
 
-ghost use Rattle.std.specs.Prelude.{◌≡◌, ◌+◌, ◌*◌, ◌≤◌, ◌<◌, length, get_or};
+ghost use Rattle.std.specs.Prelude.{◌≡◌, ◌+◌, ◌*◌, ◌≤◌, ◌<◌, ◌-◌, [], length, get_or, take, drop};
 ghost use Rattle.limits.specs.Limits.{exchange_size};
-ghost use Rattle.stored.specs.Stored.{stage_number, fail_number, stage_of, marks_fit, fits as fitting, number16, number64, Halves, LengthBytes, CountBytes, decoded, lengths_told, k_kept, h_kept, id_len_told, count_told, id_kept};
+ghost use Rattle.stored.specs.Stored.{by_size, stage_number, fail_number, stage_of, marks_fit, fits as fitting, bytes16, number16, number64, Halves, LengthBytes, CountBytes, decoded, lengths_told, k_kept, h_kept, id_len_told, count_told, id_kept};
 
 use exchange::{Lengths, Stage};
 
@@ -59,13 +59,13 @@ pub fn stage_number(stage: Stage) -> u8
     ensures { result ≡ stage_number stage }
 {
     match stage {
-        Stage::Started => 0,
-        Stage::CSent => 1,
-        Stage::InitRead => 2,
-        Stage::ReplyRead => 3,
-        Stage::SecretDone => 4,
-        Stage::Complete => 5,
-        Stage::Failed(_) => 6,
+        Stage::Started => STARTED,
+        Stage::CSent => C_SENT,
+        Stage::InitRead => INIT_READ,
+        Stage::ReplyRead => REPLY_READ,
+        Stage::SecretDone => SECRET_DONE,
+        Stage::Complete => COMPLETE,
+        Stage::Failed(_) => FAILED,
     }
 }
 
@@ -74,76 +74,65 @@ pub fn fail_number(stage: Stage) -> u8
     ensures { result ≡ fail_number stage }
 {
     match stage {
-        Stage::Started => 0,
-        Stage::CSent => 0,
-        Stage::InitRead => 0,
-        Stage::ReplyRead => 0,
-        Stage::SecretDone => 0,
-        Stage::Complete => 0,
         Stage::Failed(n) => n,
+        _ => 0,
     }
 }
 
 // The stage of a number, with what ended it where that is failed.
+#[tactic(auto, unfolding(crate::specs::Stored::stage_of))]
 pub fn stage_of(stage: u8, fail: u8) -> Stage
     ensures { result ≡ stage_of stage fail }
 {
     match stage {
-        0 => Stage::Started,
-        1 => Stage::CSent,
-        2 => Stage::InitRead,
-        3 => Stage::ReplyRead,
-        4 => Stage::SecretDone,
-        5 => Stage::Complete,
+        STARTED => Stage::Started,
+        C_SENT => Stage::CSent,
+        INIT_READ => Stage::InitRead,
+        REPLY_READ => Stage::ReplyRead,
+        SECRET_DONE => Stage::SecretDone,
+        COMPLETE => Stage::Complete,
         _ => Stage::Failed(fail),
     }
 }
 
 // Whether an exchange can have this mark, stage and fail number.
+#[tactic(auto, unfolding(crate::specs::Stored::marks_fit))]
 fn marks_fit(mark: u8, stage: u8, fail: u8) -> bool
     ensures { result ≡ marks_fit mark stage fail }
 {
-    if mark != limits::EXCHANGE_MARK {
-        return false;
-    }
-    if 6 < stage {
-        return false;
-    }
-    if stage == 6 {
-        return true;
-    }
-    fail == 0
+    mark == limits::EXCHANGE_MARK && stage <= FAILED && (stage == FAILED || fail == 0)
 }
 
 // Whether an exchange has these bytes.
+#[tactic(auto, using(crate::proofs::StoredLaws::size_unfit, crate::proofs::StoredLaws::marks_fits))]
 pub fn fits(b: &[u8]) -> bool
     ensures { result ≡ fitting b.now }
 {
-    if b.len() != limits::EXCHANGE_SIZE {
-        return false;
-    }
-    marks_fit(b[MARK_AT], b[STAGE_AT], b[FAIL_AT])
+    b.len() == limits::EXCHANGE_SIZE && marks_fit(b[MARK_AT], b[STAGE_AT], b[FAIL_AT])
 }
 
 // The byte at a place, 0 behind the end.
 pub fn byte_in(b: &[u8], at: usize) -> u8
     ensures { result ≡ get_or b.now at 0 }
 {
-    if at < b.len() { b[at] } else { 0 }
+    b.get(at).copied().unwrap_or(0)
 }
 
 // The stage that bytes tell; a byte that is not there counts as 0.
+#[tactic(auto, unfolding(crate::specs::Stored::decoded))]
 pub fn stage_in(b: &[u8]) -> Stage
     ensures { result ≡ (decoded b.now).stage }
 {
     stage_of(byte_in(b, STAGE_AT), byte_in(b, FAIL_AT))
 }
 
-// Two bytes as a number: that they are bytes is known where they are added up.
-fn join(a: u8, b: u8) -> usize
-    ensures { (result ≡ a * 256 + b) × (a < 256) × (b < 256) }
+// The two bytes of a length.
+#[tactic(auto, using(crate::proofs::StoredLaws::last_two))]
+pub fn length_bytes(n: usize) -> [u8; 2]
+    ensures { result ≡ bytes16 n }
 {
-    (a as usize) * 256 + (b as usize)
+    let [.., high, low] = n.to_be_bytes();
+    [high, low]
 }
 
 // The number in the two bytes from `at` on.
@@ -151,23 +140,17 @@ fn u16_at(b: &[u8], at: usize) -> usize
     requires { at + 2 ≤ length b.now }
     ensures { (result ≡ number16 b.now at) × Halves b.now at }
 {
-    join(b[at], b[at + 1])
+    usize::from(u16::from_be_bytes(*b[at..at + 2].as_array().unwrap()))
 }
 
-// The lengths that bytes tell; none in bytes of another size.
+// The lengths that bytes tell; none in bytes of another size. Here and below bytes of another size are told by their length: `as_array` would say it in as
+// many words, and what it gives is indexed as they are.
+#[tactic(auto, using(crate::proofs::StoredLaws::size_taken, crate::proofs::StoredLaws::size_left))]
 pub fn lengths_in(b: &[u8]) -> Lengths
     ensures { (result ≡ lengths_told b.now) × (length b.now ≡ exchange_size → LengthBytes b.now) }
 {
     if b.len() != limits::EXCHANGE_SIZE {
-        return Lengths {
-            vc: 0,
-            vs: 0,
-            ic: 0,
-            is: 0,
-            ks: 0,
-            c: 0,
-            s: 0,
-        };
+        return Lengths::default();
     }
     Lengths {
         vc: u16_at(b, 5),
@@ -180,27 +163,35 @@ pub fn lengths_in(b: &[u8]) -> Lengths
     }
 }
 
+// The bytes from a place to another of an exchange's; none of bytes of another size.
+#[tactic(auto, using(crate::proofs::StoredLaws::size_taken, crate::proofs::StoredLaws::size_left))]
+fn part(b: &[u8], from: usize, to: usize) -> &[u8]
+    requires { (from ≤ to) × (to ≤ exchange_size) }
+    ensures { result.now ≡ by_size b.now (take (to - from) (drop from b.now)) [] }
+{
+    if b.len() != limits::EXCHANGE_SIZE {
+        return &[];
+    }
+    &b[from..to]
+}
+
 // K's record among the bytes; empty in bytes of another size.
 pub fn k_in(b: &[u8]) -> &[u8]
     ensures { result.now ≡ k_kept b.now }
 {
-    if b.len() != limits::EXCHANGE_SIZE {
-        return &b[0..0];
-    }
-    &b[K_AT..H_AT]
+    part(b, K_AT, H_AT)
 }
 
 // H among the bytes; empty in bytes of another size.
 pub fn h_in(b: &[u8]) -> &[u8]
     ensures { result.now ≡ h_kept b.now }
 {
-    if b.len() == limits::EXCHANGE_SIZE {
-        return &b[H_AT..SESSION_AT];
-    }
-    &b[0..0]
+    part(b, H_AT, SESSION_AT)
 }
 
-// The length of the session identifier; 0 in bytes of another size.
+// The length of the session identifier; 0 in bytes of another size. It and the count stay two: one function for both would take a closure for one
+// word, and be no plainer.
+#[tactic(auto, using(crate::proofs::StoredLaws::size_taken, crate::proofs::StoredLaws::size_left))]
 pub fn id_len_in(b: &[u8]) -> usize
     ensures { (result ≡ id_len_told b.now) × (length b.now ≡ exchange_size → Halves b.now 154) }
 {
@@ -215,14 +206,11 @@ fn u64_at(b: &[u8], at: usize) -> u64
     requires { at + 8 ≤ length b.now }
     ensures { (result ≡ number64 b.now at) × CountBytes b.now at }
 {
-    let a = u16_at(b, at);
-    let c = u16_at(b, at + 2);
-    let d = u16_at(b, at + 4);
-    let e = u16_at(b, at + 6);
-    ((a * 65536 + c) as u64) * 4294967296 + ((d * 65536 + e) as u64)
+    u64::from_be_bytes(*b[at..at + 8].as_array().unwrap())
 }
 
 // How many exchanges were completed; 0 in bytes of another size.
+#[tactic(auto, using(crate::proofs::StoredLaws::size_taken, crate::proofs::StoredLaws::size_left))]
 pub fn count_in(b: &[u8]) -> u64
     ensures { (result ≡ count_told b.now) × (length b.now ≡ exchange_size → CountBytes b.now 156) }
 {
@@ -236,8 +224,5 @@ pub fn count_in(b: &[u8]) -> u64
 pub fn id_in(b: &[u8]) -> &[u8]
     ensures { result.now ≡ id_kept b.now }
 {
-    if b.len() == limits::EXCHANGE_SIZE {
-        return &b[ID_AT..];
-    }
-    &b[0..0]
+    part(b, ID_AT, limits::EXCHANGE_SIZE)
 }

@@ -12,10 +12,8 @@ use exchange::{Exchange, Session, Stage};
 fn load_session(b: &[u8]) -> Session
     ensures { result ≡ by_size b.now (session_in b.now) no_session }
 {
-    let mut id = [0u8; limits::H_SIZE];
-    buffers::put_bytes(&mut id, 0, stored::id_in(b));
     Session {
-        id,
+        id: buffers::in_zeros(stored::id_in(b)),
         len: stored::id_len_in(b),
         count: stored::count_in(b),
     }
@@ -25,53 +23,33 @@ fn load_session(b: &[u8]) -> Session
 pub fn load(b: &[u8]) -> Exchange
     ensures { result ≡ by_size b.now (decoded b.now) blank }
 {
-    let mut k = [0u8; limits::K_SIZE];
-    buffers::put_bytes(&mut k, 0, stored::k_in(b));
-    let mut h = [0u8; limits::H_SIZE];
-    buffers::put_bytes(&mut h, 0, stored::h_in(b));
-    let lens = stored::lengths_in(b);
-    let session = load_session(b);
+    let mut e = Exchange {
+        stage: Stage::Started,
+        role: 0,
+        method: 0,
+        lens: stored::lengths_in(b),
+        k: buffers::in_zeros(stored::k_in(b)),
+        h: buffers::in_zeros(stored::h_in(b)),
+        session: load_session(b),
+    };
     if b.len() != limits::EXCHANGE_SIZE {
-        return Exchange {
-            stage: Stage::Started,
-            role: 0,
-            method: 0,
-            lens,
-            k,
-            h,
-            session,
-        };
+        return e;
     }
-    let stage = stored::stage_in(b);
-    Exchange {
-        stage,
-        role: b[stored::ROLE_AT],
-        method: b[stored::METHOD_AT],
-        lens,
-        k,
-        h,
-        session,
-    }
+    e.stage = stored::stage_in(b);
+    e.role = b[stored::ROLE_AT];
+    e.method = b[stored::METHOD_AT];
+    e
 }
 
 // Lays a session into the bytes behind H, where it fits there.
 fn store_session(b: &mut [u8], s: Session)
     ensures { b.new ≡ laid (laid b.old 154 (bytes16 s.len ++ bytes64 s.count)) 164 s.id }
 {
-    let len = s.len;
-    let n = s.count;
+    let len = stored::length_bytes(s.len);
+    let n = s.count.to_be_bytes();
     let id = s.id;
     let numbers = [
-        (len / 256 % 256) as u8,
-        (len % 256) as u8,
-        (n / 281474976710656 / 256 % 256) as u8,
-        (n / 281474976710656 % 256) as u8,
-        (n / 4294967296 / 256 % 256) as u8,
-        (n / 4294967296 % 256) as u8,
-        (n / 65536 / 256 % 256) as u8,
-        (n / 65536 % 256) as u8,
-        (n / 256 % 256) as u8,
-        (n % 256) as u8,
+        len[0], len[1], n[0], n[1], n[2], n[3], n[4], n[5], n[6], n[7],
     ];
     buffers::put_bytes(b, stored::SESSION_AT, &numbers);
     buffers::put_bytes(b, stored::ID_AT, &id);
@@ -87,26 +65,33 @@ pub fn store(b: &mut [u8], x: Exchange)
     let stage = x.stage;
     let l = x.lens;
     let k = x.k;
+    let vc = stored::length_bytes(l.vc);
+    let vs = stored::length_bytes(l.vs);
+    let ic = stored::length_bytes(l.ic);
+    let is = stored::length_bytes(l.is);
+    let ks = stored::length_bytes(l.ks);
+    let c = stored::length_bytes(l.c);
+    let s = stored::length_bytes(l.s);
     let head = [
         limits::EXCHANGE_MARK,
         stored::stage_number(stage),
         stored::fail_number(stage),
         x.role,
         x.method,
-        (l.vc / 256 % 256) as u8,
-        (l.vc % 256) as u8,
-        (l.vs / 256 % 256) as u8,
-        (l.vs % 256) as u8,
-        (l.ic / 256 % 256) as u8,
-        (l.ic % 256) as u8,
-        (l.is / 256 % 256) as u8,
-        (l.is % 256) as u8,
-        (l.ks / 256 % 256) as u8,
-        (l.ks % 256) as u8,
-        (l.c / 256 % 256) as u8,
-        (l.c % 256) as u8,
-        (l.s / 256 % 256) as u8,
-        (l.s % 256) as u8,
+        vc[0],
+        vc[1],
+        vs[0],
+        vs[1],
+        ic[0],
+        ic[1],
+        is[0],
+        is[1],
+        ks[0],
+        ks[1],
+        c[0],
+        c[1],
+        s[0],
+        s[1],
     ];
     buffers::put_bytes(b, 0, &head);
     buffers::put_bytes(b, stored::K_AT, &k);

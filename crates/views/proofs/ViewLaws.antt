@@ -8,11 +8,9 @@ use denote.Ref.{Bor}
 use Rattle.wire.specs.Parts.{nothing}
 use Rattle.names.specs.Cursor.{exhausted, next_name}
 use Rattle.names.proofs.CursorLaws.{stopped, no_name, ahead_end}
-use Rattle.kexinit.specs.Reader.{open_cause, open_list}
-use Rattle.kexinit.specs.declared.Opened.{Opened}
+use Rattle.kexinit.specs.Reader.{Opened, open_cause, open_list}
 use Rattle.kexinit.proofs.ReaderLaws.{open_refused, open_cause_lem}
-use Rattle.views.specs.View.{opened_by, yielded, left_by}
-use Rattle.views.specs.declared.View.{View}
+use Rattle.views.specs.View.{View, opened_by, yielded, left_by}
 
 -- a view that yields no name stays: at the end, and at a bad name
 pub stays : (v : View) → (yielded v).found ≡ false → left_by v (yielded v) ≡ v

@@ -2,9 +2,20 @@
 use Rattle.std.specs.Prelude.{ℕ, List}
 use Rattle.std.specs.Borrow.{Bor}
 use Rattle.names.specs.Cursor.{next_name}
-use Rattle.names.specs.declared.Next.{Next}
-use Rattle.kexinit.specs.declared.Opened.{Opened}
-use Rattle.views.specs.declared.View.{View}
+use Rattle.names.specs.Next.{Next}
+use Rattle.names.specs.declared.Cursor.{Cursor}
+use Rattle.kexinit.specs.Reader.{Head, Opened, head_told}
+use Rattle.views.specs.declared as code
+
+-- the payload, a cursor that yields the list's names one at a time, and what opening gave beside it
+pub record View : Type 0 where
+  pub payload : Bor (List ℕ)
+  pub cursor : Cursor
+  pub head : Head
+
+-- the same by the code's
+abbrev pub view_told : code.View.View → View
+view_told v = record { payload = v.payload; cursor = v.cursor; head = head_told v.head }
 
 -- a view at the beginning of what opening gave: a refused one has only the end ahead
 abbrev pub opened_by : Bor (List ℕ) → Opened → View

@@ -11,7 +11,7 @@ use Rattle.limits.specs.Limits.{string_most}
 use Rattle.buffers.specs.Bytes.{Bytes}
 use Rattle.wire.specs.Parts.{part, bytes_at}
 use Rattle.wire.specs.Strings.{number32, bytes32, string, whole, read_string}
-use Rattle.wire.specs.declared.StringRead.{StringRead}
+use Rattle.wire.specs.Strings.{StringRead}
 use Rattle.buffers.proofs.ByteLaws.{tail_part}
 use Rattle.wire.proofs.StringLaws.{length_string, whole_within, whole_is, read_found, read_zero}
 

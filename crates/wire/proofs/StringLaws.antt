@@ -1,20 +1,26 @@
 -- Laws of `specs/Strings.antt`. Assumes nothing.
-use Prim.Native.Nat.{ℕ, zero, suc, ◌+◌, ◌-◌, ◌*◌, ◌≤◌, ◌<◌}
-use native.Mathlib.Nat.{add-zero}
+use Prim.Native.Nat.{ℕ, zero, suc, ◌+◌, ◌-◌, ◌≤◌, ◌<◌}
 use mathlib.Core.Path.{◌≡◌, refl, sym, ap, ◌∙◌}
 use mathlib.Core.List.{List}
 use mathlib.Core.Bool.{Bool, true, false, cond}
 use native.Mathlib.Omega.{arith}
-use lib.ListN.{length, get_or, drop, length-drop}
-use lib.Seq.{get_or-drop}
+use lib.ListN.{length, drop, length-drop}
 use lib.Dec.{leb}
+use Rattle.std.specs.Prelude.{Option, None, Some, unwrap_or}
+use Rattle.std.specs.Option.{MatchOption, UnwrapsOrElse}
+use borrow.Author.Rules.{rules}
 use borrow.Author.Tests.{leb-true, le-leb, lt-leb}
 use Rattle.limits.proofs.BoolLaws.{and_true, and_false}
 use Rattle.wire.specs.Parts.{part, nothing}
 use Rattle.wire.specs.Strings.{number32, number_at, string, whole, field_at, walk, read_string}
-use Rattle.wire.specs.declared.Field.{Field}
-use Rattle.wire.specs.declared.StringRead.{StringRead}
-use Rattle.wire.specs.declared.Walk.{Walk}
+use Rattle.wire.specs.Told.{field_told, read_told}
+use Rattle.wire.specs.contracts.PartDefault.TheImpl.{is_default-value as PartIsDefault}
+use Rattle.wire.specs.contracts.StringAndRestDefault.TheImpl.{is_default-value as BothAreDefault}
+use Rattle.wire.specs.declared.Part.{Part}
+use Rattle.wire.specs.declared.StringAndRest.{StringAndRest}
+use Rattle.wire.specs.Strings.{Field}
+use Rattle.wire.specs.Strings.{StringRead}
+use Rattle.wire.specs.Strings.{Walk}
 
 -- ---- string
 
@@ -33,10 +39,11 @@ module _ (s : List ℕ) (at : ℕ) where
   unfolding number_at
   number_at_lem h = rw (le-leb (at + 4) (length s) h)
 
-  -- four bytes that were read
-  pub number_read : (n : ℕ) → at + 4 ≤ length s
-      → n ≡ get_or s at 0 * 16777216 + get_or s (at + 1) 0 * 65536 + get_or s (at + 2) 0 * 256 + get_or s (at + 3) 0 → n ≡ number_at s at
-  number_read n h e = e ∙ sym (number_at_lem h ∙ simp (get_or-drop, add-zero))
+  -- the four bytes, where they were read, else 0
+  pub number_told : (r : Option ℕ) → MatchOption r (length s < at + 4) (λ n. (at + 4 ≤ length s) × (n ≡ number32 (drop at s)))
+      → unwrap_or r 0 ≡ number_at s at
+  number_told None h = number_past h
+  number_told (Some n) h = h.1 ∙ sym (number_at_lem h.0)
 
 -- ---- whole
 
@@ -67,17 +74,14 @@ module _ (s : List ℕ) (at : ℕ) where
   unfolding field_at
   cut w = rw w
 
-  pub field_past : length s < at → ◌≡◌ {A = Field} (record { number = 12; start = 0; len = 0 }) (field_at s at)
+  pub field_past : length s < at + 4 → ◌≡◌ {A = Field} (record { number = 12; start = 0; len = 0 }) (field_at s at)
   field_past h = let r = rest_length in cut (whole_no_length (drop at s) (omega arith))
 
-  pub field_no_length : length s - at < 4 → ◌≡◌ {A = Field} (record { number = 12; start = 0; len = 0 }) (field_at s at)
-  field_no_length h = let r = rest_length in cut (whole_no_length (drop at s) (omega arith))
-
-  pub field_no_body : (n : ℕ) → n ≡ number32 (drop at s) → 4 ≤ length s - at → length s - at - 4 < n
+  pub field_no_body : (n : ℕ) → n ≡ number32 (drop at s) → at + 4 ≤ length s → length s - (at + 4) < n
       → ◌≡◌ {A = Field} (record { number = 12; start = 0; len = 0 }) (field_at s at)
   field_no_body n e h k = let r = rest_length in cut (whole_no_body (drop at s) (omega arith))
 
-  pub field_found : (n : ℕ) → n ≡ number32 (drop at s) → 4 ≤ length s - at → n ≤ length s - at - 4
+  pub field_found : (n : ℕ) → n ≡ number32 (drop at s) → at + 4 ≤ length s → n ≤ length s - (at + 4)
       → ◌≡◌ {A = Field} (record { number = 0; start = at + 4; len = n }) (field_at s at)
   unfolding field_at
   field_found n e h k =
@@ -109,6 +113,20 @@ field_refused s at f e z = by_test (whole (drop at s)) refl e
         → whole (drop at s) ≡ false
     by_test true w q = absurd (z (ap (λ (x : Field). x.number) q))
     by_test false w q = w
+
+-- the same by what `field_at` answers
+pub field_some : (s : List ℕ) (at : ℕ) (p : Part) → field_told (Some p) ≡ field_at s at
+    → (whole (drop at s) ≡ true) × (p.start ≡ at + 4) × (p.len ≡ number32 (drop at s)) × (p.start + p.len ≤ length s)
+field_some s at p e = field_zero s at _ e refl
+
+pub field_none : (s : List ℕ) (at : ℕ) → field_told None ≡ field_at s at → whole (drop at s) ≡ false
+field_none s at e = field_refused s at _ e (λ z. omega arith)
+
+-- the part that a caller takes of that answer, the empty one where there is none
+pub part_found : (s : List ℕ) (at : ℕ) (r : Option Part) (p : Part) → UnwrapsOrElse r PartIsDefault.it p → field_told r ≡ field_at s at
+    → p ≡ part (field_at s at).start (field_at s at).len
+part_found s at None p h e = let z : p ≡ nothing = search rules in z ∙ (λ i. part (e i).start (e i).len)
+part_found s at (Some x) p h e = h ∙ (λ i. part (e i).start (e i).len)
 
 -- a field lies within the list, a refusal's too
 pub field_within : (s : List ℕ) (at : ℕ) → (field_at s at).start + (field_at s at).len ≤ length s
@@ -186,3 +204,13 @@ read_within s = by_test (whole s) refl
         → ((read t).body.start + (read t).body.len ≤ length s) × ((read t).rest.start + (read t).rest.len ≤ length s)
     by_test true w = let k = whole_within s w in (k, omega arith)
     by_test false w = (omega arith, omega arith)
+
+-- the parts that a caller takes of what `read_string` answers, empty where there is none
+pub parts_found : (s : List ℕ) (r : Option StringAndRest) (v : StringAndRest) → UnwrapsOrElse r BothAreDefault.it v → read_told r ≡ read_string s
+    → (v.body ≡ (read_string s).body) × (v.rest ≡ (read_string s).rest)
+parts_found s None v h e =
+    let b : v.body ≡ nothing = search rules in
+    let t : v.rest ≡ nothing = search rules in
+    (b ∙ ap (λ (x : StringRead). x.body) e, t ∙ ap (λ (x : StringRead). x.rest) e)
+parts_found s (Some x) v h e =
+    (ap (λ (y : StringAndRest). y.body) h ∙ ap (λ (y : StringRead). y.body) e, ap (λ (y : StringAndRest). y.rest) h ∙ ap (λ (y : StringRead). y.rest) e)

@@ -11,8 +11,8 @@ use Rattle.limits.specs.Limits.{string_most}
 use Rattle.buffers.specs.Bytes.{Bytes}
 use Rattle.wire.specs.Parts.{part, bytes_at}
 use Rattle.wire.specs.Strings.{bytes32, number32, string, strings, whole, field_at, walk, string_part}
-use Rattle.wire.specs.declared.Field.{Field}
-use Rattle.wire.specs.declared.Walk.{Walk}
+use Rattle.wire.specs.Strings.{Field}
+use Rattle.wire.specs.Strings.{Walk}
 use Rattle.wire.proofs.StringLaws.{length_string, whole_within, field_within}
 use Rattle.wire.proofs.WalkLaws.{field_whole}
 use Rattle.wire.proofs.RoundTrip.{number32_string, whole_string, bytes32_number32}

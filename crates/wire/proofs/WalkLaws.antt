@@ -1,11 +1,12 @@
 -- Laws of `walk`: what is known of the strings that it passed over. Assumes nothing.
 use Prim.Native.Nat.{ℕ, zero, suc, ◌+◌, ◌≤◌, ◌<◌}
-use mathlib.Core.Path.{◌≡◌, refl}
+use mathlib.Core.Path.{◌≡◌, refl, ap, ◌∙◌}
 use mathlib.Core.List.{List}
 use mathlib.Core.Bool.{Bool, true, false, cond}
 use native.Mathlib.Omega.{arith}
 use lib.ListN.{length, drop, length-drop}
-use Rattle.wire.specs.Strings.{number32, whole, field_at, walk}
+use Rattle.wire.specs.Parts.{nothing}
+use Rattle.wire.specs.Strings.{Walk, number32, whole, field_at, walk, string_part}
 use Rattle.wire.proofs.StringLaws.{whole_within}
 
 -- the place behind a whole string lies within the list
@@ -72,3 +73,22 @@ walk_whole s at (suc k) (suc m) h z =
         → whole (drop (cond t (walk s (at + 4 + number32 (drop at s)) k) (record { number = 12; place = at })).place s) ≡ true
     by_test true r q = r q
     by_test false r q = let v : ⊥ = omega arith in absurd v
+
+-- where a walk is refused, the string that stands there is cut
+pub walk_stuck : (s : List ℕ) (at k : ℕ) → ((walk s at k).number ≡ 0 → ⊥) → whole (drop (walk s at k).place s) ≡ false
+walk_stuck s at zero z = absurd (z refl)
+walk_stuck s at (suc k) z =
+    by_test (whole (drop at s)) refl (walk_stuck s (at + 4 + number32 (drop at s)) k) z
+  where
+    by_test : (t : Bool) → whole (drop at s) ≡ t
+        → (((walk s (at + 4 + number32 (drop at s)) k).number ≡ 0 → ⊥) → whole (drop (walk s (at + 4 + number32 (drop at s)) k).place s) ≡ false)
+        → ((cond t (walk s (at + 4 + number32 (drop at s)) k) (record { number = 12; place = at })).number ≡ 0 → ⊥)
+        → whole (drop (cond t (walk s (at + 4 + number32 (drop at s)) k) (record { number = 12; place = at })).place s) ≡ false
+    by_test true e r n = r n
+    by_test false e r n = e
+
+-- so no string is found behind it
+pub part_lost : (s : List ℕ) (at k place : ℕ) → ◌≡◌ {A = Walk} (record { number = 12; place = place }) (walk s at k) → nothing ≡ string_part s at k
+unfolding string_part field_at
+part_lost s at k place e =
+    rw (walk_stuck s at k (λ z. let n : 12 ≡ 0 = ap (λ (w : Walk). w.number) e ∙ z in let v : ⊥ = omega arith in v)) refl

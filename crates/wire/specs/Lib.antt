@@ -1,3 +1,4 @@
 pub mod Causes
 pub mod Parts
 pub mod Strings
+pub mod Told

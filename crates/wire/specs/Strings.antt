@@ -1,10 +1,24 @@
 -- The SSH string: a big-endian 32-bit length and that many bytes (RFC 4251, section 5). Assumes nothing.
 use Rattle.std.specs.Prelude.{ℕ, zero, suc, ◌+◌, ◌-◌, ◌*◌, ◌/◌, ◌%◌, List, [], ◌∷◌, ◌++◌, Bool, cond, ◌&&◌, length, get_or, drop, leb}
 use Rattle.wire.specs.Parts.{part, nothing}
-use Rattle.wire.specs.declared.Field.{Field}
 use Rattle.wire.specs.declared.Part.{Part}
-use Rattle.wire.specs.declared.StringRead.{StringRead}
-use Rattle.wire.specs.declared.Walk.{Walk}
+
+-- a string inside an input: 0 and its body's place, or 12
+pub record Field : Type 0 where
+  pub number : ℕ
+  pub start : ℕ
+  pub len : ℕ
+
+-- where a run of strings ends, with 0; or 12 and where the one that passes the end begins
+pub record Walk : Type 0 where
+  pub number : ℕ
+  pub place : ℕ
+
+-- the string at the front of an input: 0 with its body and what follows it, or 12
+pub record StringRead : Type 0 where
+  pub number : ℕ
+  pub body : Part
+  pub rest : Part
 
 -- the four bytes of a 32-bit number, the highest first
 abbrev pub bytes32 : ℕ → List ℕ

@@ -9,7 +9,7 @@ use Rattle.limits.specs.Limits.{payload_most}
 use Rattle.buffers.specs.Bytes.{Bytes, zeros}
 use Rattle.wire.specs.Causes.{cause_if, cause_unless}
 use Rattle.wire.specs.Strings.{number32, string, strings, whole, walk, read_string}
-use Rattle.wire.specs.declared.Walk.{Walk}
+use Rattle.wire.specs.Strings.{Walk}
 use Rattle.wire.proofs.CauseLaws.{or_else_first}
 use Rattle.wire.proofs.StringLaws.{whole_no_length}
 use Rattle.wire.proofs.StringsLaws.{length_strings, walk_strings}

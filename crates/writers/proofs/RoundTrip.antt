@@ -10,7 +10,7 @@ use Rattle.limits.specs.Limits.{string_most}
 use Rattle.buffers.specs.Bytes.{Bytes}
 use Rattle.wire.specs.Parts.{bytes_at}
 use Rattle.wire.specs.Strings.{string, read_string}
-use Rattle.wire.specs.declared.StringRead.{StringRead}
+use Rattle.wire.specs.Strings.{StringRead}
 use Rattle.wire.proofs.CauseLaws.{if_none}
 use Rattle.wire.proofs.StringLaws.{read_zero}
 use Rattle.wire.proofs.RoundTrip.{string_complete, body_string, length_body, string_sound}

@@ -15,7 +15,7 @@ use Rattle.wire.specs.Strings.{bytes32, string}
 use Rattle.wire.proofs.CauseLaws.{if_holds, if_fails}
 use Rattle.wire.proofs.StringLaws.{length_string}
 use Rattle.writers.specs.Writers.{wrote, leaves, front, string_cause}
-use Rattle.writers.specs.declared.Written.{Written}
+use Rattle.writers.specs.Writers.{Written}
 
 module _ (cause : ℕ) (b out : List ℕ) where
   -- a refusal: no count, the output as it was

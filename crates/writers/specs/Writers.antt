@@ -1,10 +1,21 @@
 -- What a writer answers and leaves, given its first cause, 0 for none, and the bytes that it is to write. Assumes nothing.
-use Rattle.std.specs.Prelude.{ℕ, List, cond, length, take, ltb, eqb}
+use Rattle.std.specs.Prelude.{ℕ, List, Result, Ok, Err, cond, length, take, ltb, eqb}
 use Rattle.limits.specs.Limits.{string_most}
+use Rattle.limits.specs.Refusals.{number_of}
+use Rattle.limits.specs.declared.Refusal.{Refusal}
 use Rattle.buffers.specs.Bytes.{onto}
 use Rattle.wire.specs.Causes.{cause_if}
 use Rattle.wire.specs.Strings.{string}
-use Rattle.writers.specs.declared.Written.{Written}
+
+-- what a writer answers: 0 and the bytes written, or the number of a refusal and 0
+pub record Written : Type 0 where
+  pub number : ℕ
+  pub count : ℕ
+
+-- the same by a count or a refusal
+abbrev pub written_told : Result ℕ Refusal → Written
+written_told (Ok n) = record { number = 0; count = n }
+written_told (Err e) = record { number = number_of e; count = 0 }
 
 -- the number, and how many bytes were written: none on a refusal
 unfoldable pub wrote : ℕ → List ℕ → Written

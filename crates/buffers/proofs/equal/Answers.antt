@@ -1,47 +1,20 @@
-use Prim.Native.Nat.{◌+◌}
-use mathlib.Core.Path.{refl, sym, ap, ◌∙◌}
-use mathlib.Core.Bool.{Bool, ◌&&◌}
-use native.Mathlib.Omega.{arith}
-use lib.ListN.{get_or, drop, drop_of_length-le}
-use borrow.Author.Tests.{eq-eqb, ne_eqb}
-use Rattle.buffers.specs.Bytes.{same}
-use Rattle.buffers.proofs.ByteLaws.{same_at, same_lengths}
+-- `buffers::equal` meets its contract. Assumes nothing.
+use Rattle.std.proofs.Common.{ℕ, length, eqb, sym, ◌∙◌, rules, tests}
+use Rattle.std.proofs.lemmas.Iterator.{YieldsList-from_slice, YieldsList-from_zip}
+use Rattle.std.proofs.lemmas.Iterator.Search.{all_from_yields_List}
+use borrow.Author.Tests.{ne_eqb}
+use Rattle.buffers.proofs.ByteLaws.{same_zip, same_lengths}
 use Rattle.buffers.proofs.equal.Goals as goal
 
 pub returns-then-a-b : goal.returns-then-a-b
-returns-then-a-b c = sym (same_lengths c.args.a.now c.args.b.now c.if-a-b.true)
-
-pub loop-i-init : goal.loop-i-init
-loop-i-init c = (omega arith, c.if-a-b.false, refl)
-
-pub returns-then-a-i : goal.returns-then-a-i
-returns-then-a-i c =
+returns-then-a-b c =
     let a = c.args.a.now in
     let b = c.args.b.now in
-    let i = c.loop-i.i in
-    sym
-    (sym c.loop-i.invariant.2
-    ∙ same_at a b i (omega arith) (omega arith)
-    ∙ ap (λ (t : Bool). t && same (drop (i + 1) a) (drop (i + 1) b)) (ne_eqb (get_or a i 0) (get_or b i 0) c.if-a-i.true))
+    all_from_yields_List (λ (p : ℕ × ℕ). eqb p.0 p.1) c.all.new.self _ _ c.all.ensures.ran (YieldsList-from_zip (YieldsList-from_slice a cc) (YieldsList-from_slice b cc)) (λ x b q k. search (rules, tests))
+    ∙ same_zip a b c.if-a-b.true
 
-pub loop-i-preserved : goal.loop-i-preserved
-loop-i-preserved c =
+pub returns-else-a-b : goal.returns-else-a-b
+returns-else-a-b c =
     let a = c.args.a.now in
     let b = c.args.b.now in
-    let i = c.loop-i.i in (
-      omega arith,
-      c.loop-i.invariant.1,
-      sym
-          (same_at a b i (omega arith) (omega arith)
-          ∙ ap (λ (t : Bool). t && same (drop (i + 1) a) (drop (i + 1) b)) (eq-eqb (get_or a i 0) (get_or b i 0) c.if-a-i.false))
-          ∙ c.loop-i.invariant.2,
-    )
-
-pub returns : goal.returns
-returns c =
-    let a = c.args.a.now in
-    let b = c.args.b.now in
-    let i = c.loop-i.i in
-    let p = drop_of_length-le a {i = i} (omega arith) in
-    let q = drop_of_length-le b {i = i} (omega arith) in
-    (λ j. same (sym p j) (sym q j)) ∙ c.loop-i.invariant.2
+    ne_eqb (length a) (length b) c.if-a-b.false ∙ sym (same_lengths a b c.if-a-b.false)

@@ -1,7 +1,6 @@
 -- `by_value::step_number` meets its contract. Assumes nothing.
 use borrow.Author.Rules.{rules}
-use mathlib.Core.Path.{ap}
-use mathlib.Core.Bool.{not}
+use mathlib.Core.Path.{◌∙◌}
 use Rattle.by_value.proofs.ValueLaws.{Sized, number_long, number_value}
 use Rattle.by_value.proofs.step_number.Goals.{Start}
 use Rattle.by_value.proofs.step_number.Goals as goal
@@ -9,12 +8,12 @@ use Rattle.by_value.proofs.step_number.Goals as goal
 sizes : (c : Start) → Sized c.args.e
 sizes c = (search rules, search rules, search rules)
 
-pub returns-then-not-lay : goal.returns-then-not-lay
-returns-then-not-lay c =
+pub returns-in_default : goal.returns-in_default
+returns-in_default c =
     let a = c.args in
-    number_long a.n a.e a.room a.fed _ _ c.lay.ensures (ap not c.if-not-lay.true)
+    c.number.ensures ∙ number_long a.n a.e a.room a.fed c.in_default.ensures
 
 pub returns : goal.returns
 returns c =
     let a = c.args in
-    number_value a.n a.e a.room a.fed _ _ c.lay.ensures (ap not c.if-not-lay.false) (sizes (goal.at.returns c).Start) _ c.step_number.ensures.0
+    number_value a.n a.e a.room a.fed _ c.in-Some.ensures (sizes (goal.at.returns c).Start) _ c.step_number.ensures.0

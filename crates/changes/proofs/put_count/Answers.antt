@@ -1,15 +1,9 @@
 -- `changes::put_count` meets its contract. Assumes nothing.
-use mathlib.Core.Path.{◌∙◌}
-use Rattle.stored.proofs.StoredLaws.{size_taken, size_left}
-use Rattle.changes.proofs.ChangeLaws.{count_laid}
+use mathlib.Core.Path.{◌≡◌}
+use lib.ListN.{length}
+use Rattle.limits.specs.Limits.{exchange_size}
+use Rattle.changes.proofs.ChangeLaws.{changed}
 use Rattle.changes.proofs.put_count.Goals as goal
 
-pub returns-then-b-ne-EXCHANGE_SIZE : goal.returns-then-b-ne-EXCHANGE_SIZE
-returns-then-b-ne-EXCHANGE_SIZE c = size_left c.args.b.now c.args.b.now _ c.if-b-ne-EXCHANGE_SIZE.true
-
 pub returns : goal.returns
-returns c =
-    let a = c.args in
-    let h = c.if-b-ne-EXCHANGE_SIZE.false in
-    count_laid a.b.now _ _ _ _ a.count h c.put_u16.ensures c.put_u16-2.ensures c.put_u16-3.ensures c.put_u16-4.ensures
-    ∙ size_taken a.b.now a.b.now _ h
+returns c = changed c.args.b.now _ _ (λ (e : length c.args.b.now ≡ exchange_size). let t = c.change.ensures.taken e in let s = t.shows in let l = t.leaves in let m = t.met in cc) c.change.ensures.left

@@ -1,5 +1,4 @@
 -- `client::own_c` meets its contract. Assumes nothing.
-use mathlib.Core.Bool.{not}
 use borrow.Author.Rules.{rules}
 use Prim.Native.Nat.{ℕ}
 use mathlib.Core.Path.{refl, ap, ◌∙◌}
@@ -16,13 +15,13 @@ use Rattle.client.proofs.own_c.Goals as goal
 sizes : (c : Start) → Sized c.args.e
 sizes c = (search rules, search rules, search rules)
 
-pub returns-then-not-lay : goal.returns-then-not-lay
-returns-then-not-lay c =
+pub returns-in_default : goal.returns-in_default
+returns-in_default c =
     let a = c.args in
     let e = a.e in
     let r = a.room.now in
     let q = own_c a.c.now (length a.out.now) in
-    let v = value_long e r q _ _ c.lay.ensures (ap not c.if-not-lay.true) in
+    let v = value_long e r q c.in_default.ensures in
     (c.not_due.ensures ∙ v.0, v.1, output_refused _ a.out.now (init_bytes a.c.now) v.2)
 
 pub returns : goal.returns
@@ -32,5 +31,5 @@ returns c =
     let e = a.e in
     let r = a.room.now in
     let q = own_c a.c.now (length a.out.now) in
-    let v = value_step e r q _ _ c.lay.ensures (ap not c.if-not-lay.false) (sizes (goal.at.returns c).Start) (a.out.now ∷ []) _ _ _ _ _ c.own_c-n.ensures _ _ _ (λ w. (ap (λ (l : List ℕ). get_or l 0 0) w.told_is, second_none e r q refl)) refl in
+    let v = value_step e r q _ c.in-Some.ensures (sizes (goal.at.returns c).Start) (a.out.now ∷ []) _ _ _ _ _ c.own_c-n.ensures _ _ _ (λ w. (ap (λ (l : List ℕ). get_or l 0 0) w.told_is, second_none e r q refl)) refl in
     (c.answer.ensures ∙ v.0, v.1, ap (λ (l : List (List ℕ)). get_or l 0 []) v.2)

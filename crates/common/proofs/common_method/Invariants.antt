@@ -5,11 +5,11 @@ use Rattle.common.specs.Common.{any, has, method_in}
 use Rattle.common.proofs.CommonLaws.{names_from}
 use Rattle.common.proofs.common_method.Given as goal
 
-abbrev pub invariant-loop-name : goal.invariant-loop-name
-invariant-loop-name l = has l.name (names_from l.server l.to) ≡ has l.name (names_from l.server l.s)
+abbrev pub invariant-loop-m : goal.invariant-loop-m
+invariant-loop-m l = has l.name (names_from l.server l.to) ≡ has l.name (names_from l.server l.s)
 
-abbrev pub decreases-loop-name : goal.decreases-loop-name
-decreases-loop-name l = length (ahead l.server l.to)
+abbrev pub decreases-loop-m : goal.decreases-loop-m
+decreases-loop-m l = length (ahead l.server l.to)
 
 abbrev pub invariant-search : goal.invariant-search
 invariant-search l =

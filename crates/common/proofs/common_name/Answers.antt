@@ -1,54 +1,35 @@
 -- `common::common_name` meets its contract. Assumes nothing.
-use borrow.Author.Tests.{not-true, not-false}
-use Prim.Native.Nat.{ℕ}
-use mathlib.Core.Path.{refl, sym, ap, ◌∙◌}
-use mathlib.Core.List.{List}
-use borrow.Author.Tests.{not-true, not-false}
-use Rattle.names.proofs.CursorLaws.{found}
-use Rattle.common.specs.Common.{has}
-use Rattle.common.proofs.CommonLaws.{names_from, name_read, name_less, common_none, common_here, common_later}
+use Rattle.std.proofs.Common.{ℕ, List, ◌∙◌, sym, ap}
+use Rattle.common.specs.Common.{has, common_part, some_place}
+use Rattle.common.proofs.CommonLaws.{names_from, name_read, name_less, name_some, good_found, good_none, common_here, common_later, some_part}
 use Rattle.common.proofs.common_name.Goals as goal
-
-pub loop-s-init : goal.loop-s-init
-loop-s-init c = refl
-
-pub next_name-n-requires : goal.next_name-n-requires
-next_name-n-requires c = tt
-
-pub returns-then-not-n : goal.returns-then-not-n
-returns-then-not-n c =
-    let a = c.args in
-    let k = a.client.now in
-    let u = names_from a.server.now a.s in
-    sym (common_none u k c.loop-s.at _ c.next_name-n.ensures (not-true _ c.if-not-n.true)) ∙ c.loop-s.invariant
-
-pub part_of-requires : goal.part_of-requires
-part_of-requires c = tt
-
-pub among-requires : goal.among-requires
-among-requires c = tt
 
 pub returns-then-among : goal.returns-then-among
 returns-then-among c =
     let a = c.args in
     let k = a.client.now in
     let u = names_from a.server.now a.s in
-    let f = found k c.loop-s.at _ c.next_name-n.ensures (not-false _ c.if-not-n.false) in
-    let e = sym (c.among.ensures ∙ ap (λ (m : List ℕ). has m u) (c.part_of.ensures.0 ∙ name_read k c.loop-s.at _ f)) in
-    sym (common_here u k c.loop-s.at _ f (e ∙ c.if-among.true)) ∙ c.loop-s.invariant
+    let f = good_found k c.loop-n.at _ c.in-Some.ensures in
+    let e = sym (c.among.ensures ∙ ap (λ (m : List ℕ). has m u) (c.part_of.ensures.0 ∙ name_read k c.loop-n.at _ f)) in
+    some_part c.in-Some.n.name (name_some k c.loop-n.at _ f) ∙ ap some_place (sym (common_here u k c.loop-n.at _ f (e ∙ c.if-among.true)) ∙ c.loop-n.invariant)
 
-pub loop-s-smaller : goal.loop-s-smaller
-loop-s-smaller c =
-    let a = c.args in
-    let k = a.client.now in
-    let f = found k c.loop-s.at _ c.next_name-n.ensures (not-false _ c.if-not-n.false) in
-    name_less k c.loop-s.at _ f
+pub loop-n-smaller : goal.loop-n-smaller
+loop-n-smaller c =
+    let k = c.args.client.now in
+    name_less k c.loop-n.at _ (good_found k c.loop-n.at _ c.in-Some.ensures)
 
-pub loop-s-preserved : goal.loop-s-preserved
-loop-s-preserved c =
+pub loop-n-preserved : goal.loop-n-preserved
+loop-n-preserved c =
     let a = c.args in
     let k = a.client.now in
     let u = names_from a.server.now a.s in
-    let f = found k c.loop-s.at _ c.next_name-n.ensures (not-false _ c.if-not-n.false) in
-    let e = sym (c.among.ensures ∙ ap (λ (m : List ℕ). has m u) (c.part_of.ensures.0 ∙ name_read k c.loop-s.at _ f)) in
-    common_later u k c.loop-s.at _ f (e ∙ c.if-among.false) ∙ c.loop-s.invariant
+    let f = good_found k c.loop-n.at _ c.in-Some.ensures in
+    let e = sym (c.among.ensures ∙ ap (λ (m : List ℕ). has m u) (c.part_of.ensures.0 ∙ name_read k c.loop-n.at _ f)) in
+    common_later u k c.loop-n.at _ f (e ∙ c.if-among.false) ∙ c.loop-n.invariant
+
+pub returns : goal.returns
+returns c =
+    let a = c.args in
+    let u = names_from a.server.now a.s in
+    let n = good_none a.client.now c.loop-n.at c.in_default.ensures in
+    ap some_place (sym (ap (λ (l : List (List ℕ)). common_part c.loop-n.at.at l u) n) ∙ c.loop-n.invariant)

@@ -1,6 +1,4 @@
 -- `derive::derive` meets its contract. Assumes nothing.
-use mathlib.Core.Path.{ap}
-use mathlib.Core.Bool.{not}
 use borrow.Author.Rules.{rules}
 use Rattle.by_value.proofs.ValueLaws.{Sized}
 use Rattle.derive.proofs.ValueLaws.{derive_long, derive_value}
@@ -10,10 +8,10 @@ use Rattle.derive.proofs.derive.Goals as goal
 sizes : (c : Start) → Sized c.args.e
 sizes c = (search rules, search rules, search rules)
 
-pub returns-then-not-lay : goal.returns-then-not-lay
-returns-then-not-lay c = let a = c.args in derive_long a.e _ _ c.lay.ensures a.letter a.len a.out.now (ap not c.if-not-lay.true)
+pub returns-in_default : goal.returns-in_default
+returns-in_default c = let a = c.args in rw c.number.ensures (derive_long a.e a.letter a.len a.out.now c.in_default.ensures)
 
 pub returns : goal.returns
 returns c =
     let a = c.args in
-    derive_value a.e _ _ c.lay.ensures a.letter a.len a.out.now (ap not c.if-not-lay.false) (sizes (goal.at.returns c).Start) _ _ c.derive.ensures.0 c.derive.ensures.1
+    derive_value a.e a.letter a.len a.out.now _ c.in-Some.ensures (sizes (goal.at.returns c).Start) _ _ c.derive.ensures.0 c.derive.ensures.1

@@ -7,9 +7,9 @@ use Rattle.names.specs.Cursor.{cursor_of}
 use Rattle.kexinit.proofs.ReaderLaws.{cursor_empty, cursor_some}
 use Rattle.kexinit.proofs.list_cursor.Goals as goal
 
-pub returns-then-len-eq0 : goal.returns-then-len-eq0
-returns-then-len-eq0 c =
-    cursor_empty c.string_part-p.result c.if-len-eq0.true ∙ ap cursor_of c.string_part-p.ensures
+pub returns-then-p-eq0 : goal.returns-then-p-eq0
+returns-then-p-eq0 c =
+    cursor_empty c.string_part-p.result c.if-p-eq0.true ∙ ap cursor_of c.string_part-p.ensures
 
 pub overflow_add-result : goal.overflow_add-result
 overflow_add-result c =
@@ -19,4 +19,4 @@ overflow_add-result c =
 
 pub returns : goal.returns
 returns c =
-    cursor_some c.string_part-p.result c.if-len-eq0.false ∙ ap cursor_of c.string_part-p.ensures
+    cursor_some c.string_part-p.result c.if-p-eq0.false ∙ ap cursor_of c.string_part-p.ensures

@@ -8,6 +8,7 @@ use lib.ListN.{length, take, drop, length-take}
 use lib.Seq.{length-take-le}
 use Rattle.limits.specs.Limits.{key_most, letter_first, letter_last}
 use Rattle.limits.proofs.RangeLaws.{within_most}
+use Rattle.limits.proofs.RefusalLaws.{number_some}
 use Rattle.buffers.specs.Bytes.{onto}
 use Rattle.wire.specs.Strings.{number_at}
 use Rattle.sha_words.specs.Constants.{known}
@@ -17,22 +18,22 @@ use Rattle.keys.specs.Keys.{key_of}
 use Rattle.keys.specs.Derived.{key_in}
 use Rattle.keys.proofs.KeyLaws.{length_key_of}
 use Rattle.keys.proofs.DeriveLaws.{Derives, derives_known, Read, read, Named, named}
-use Rattle.keys.proofs.derive.Goals.{After-id_len_in-id_len, After-u32_at, After-write_key, Else-n-ne0}
+use Rattle.keys.proofs.derive.Goals.{After-id_len_in-id_len, After-u32_at, After-write_key, In_default}
 use Rattle.keys.proofs.derive.Goals as goal
 
 -- nothing is against it
-known-there : (c : Else-n-ne0) → let a = c.args in Derives a.ex.now a.letter a.len (length a.out.now)
-known-there c = derives_known _ _ _ _ (sym c.derive_cause-n.ensures ∙ c.if-n-ne0.false)
+known-there : (c : In_default) → let a = c.args in Derives a.ex.now a.letter a.len (length a.out.now)
+known-there c = derives_known _ _ _ _ (sym c.in_default.ensures)
 
 known-there-After-u32_at : (c : After-u32_at) → let a = c.args in Derives a.ex.now a.letter a.len (length a.out.now)
-known-there-After-u32_at c = derives_known _ _ _ _ (sym c.derive_cause-n.ensures ∙ c.if-n-ne0.false)
+known-there-After-u32_at c = derives_known _ _ _ _ (sym c.in_default.ensures)
 
 -- what was read of the exchange
 reads : (c : After-u32_at) → Read c.args.ex.now c.digest_len-kind.result (4 + c.u32_at.result)
 reads c = read c.args.ex.now _ _ _ (known-there-After-u32_at c).complete c.byte_in.ensures c.digest_len-kind.ensures (c.u32_at.ensures ∙ ap (λ (k : List ℕ). number_at k 0) c.k_in-k.ensures)
 
 known-there-After-id_len_in-id_len : (c : After-id_len_in-id_len) → let a = c.args in Derives a.ex.now a.letter a.len (length a.out.now)
-known-there-After-id_len_in-id_len c = derives_known _ _ _ _ (sym c.derive_cause-n.ensures ∙ c.if-n-ne0.false)
+known-there-After-id_len_in-id_len c = derives_known _ _ _ _ (sym c.in_default.ensures)
 
 -- the session identifier
 names : (c : After-id_len_in-id_len) → Named c.args.ex.now c.id_len_in-id_len.result
@@ -42,7 +43,7 @@ less_none : (n : ℕ) → n - 0 ≡ n
 less_none n = omega arith
 
 known-there-After-write_key : (c : After-write_key) → let a = c.args in Derives a.ex.now a.letter a.len (length a.out.now)
-known-there-After-write_key c = derives_known _ _ _ _ (sym c.derive_cause-n.ensures ∙ c.if-n-ne0.false)
+known-there-After-write_key c = derives_known _ _ _ _ (sym c.in_default.ensures)
 
 reads-After-write_key : (c : After-write_key) → Read c.args.ex.now c.digest_len-kind.result (4 + c.u32_at.result)
 reads-After-write_key c = read c.args.ex.now _ _ _ (known-there-After-write_key c).complete c.byte_in.ensures c.digest_len-kind.ensures (c.u32_at.ensures ∙ ap (λ (k : List ℕ). number_at k 0) c.k_in-k.ensures)
@@ -71,11 +72,11 @@ key-length c =
     let r = reads-After-write_key c in
     length_key_of _ _ _ _ _ (ap known (sym r.kind_is) ∙ r.hash_known) a.len
 
-pub returns-then-n-ne0 : goal.returns-then-n-ne0
-returns-then-n-ne0 c =
+pub returns-in-Err : goal.returns-in-Err
+returns-in-Err c =
     let a = c.args in
-    let n = c.derive_cause-n.ensures in
-    (n, output_refused _ a.out.now (key_in (decoded a.ex.now) a.letter a.len) (λ z. c.if-n-ne0.true (n ∙ z)))
+    let n = c.in-Err.ensures in
+    (c.number.ensures ∙ n, output_refused _ a.out.now (key_in (decoded a.ex.now) a.letter a.len) (λ z. number_some c.in-Err.e (n ∙ z)))
 
 pub slice_bounds-h-end : goal.slice_bounds-h-end
 slice_bounds-h-end c = let r = reads (goal.at.slice_bounds-h-end c).After-u32_at in omega (arith, r.kind_most, r.h_length, ap length c.h_in.ensures)
@@ -88,16 +89,16 @@ slice_bounds-write_key-end c = let r = reads (goal.at.slice_bounds-write_key-end
 
 pub overflow_cast-letter : goal.overflow_cast-letter
 overflow_cast-letter c =
-    let l = within_most letter_first letter_last c.args.letter (known-there (goal.at.overflow_cast-letter c).Else-n-ne0).letter_ok in
+    let l = within_most letter_first letter_last c.args.letter (known-there (goal.at.overflow_cast-letter c).In_default).letter_ok in
     search (rules, l)
 
 pub slice_bounds-write_key-end-2 : goal.slice_bounds-write_key-end-2
-slice_bounds-write_key-end-2 c = (known-there (goal.at.slice_bounds-write_key-end-2 c).Else-n-ne0).long_enough
+slice_bounds-write_key-end-2 c = (known-there (goal.at.slice_bounds-write_key-end-2 c).In_default).long_enough
 
 pub write_key-requires : goal.write_key-requires
 write_key-requires c =
     let r = reads (goal.at.write_key-requires c).After-u32_at in
-    let l = (known-there (goal.at.write_key-requires c).Else-n-ne0).length_ok in (
+    let l = (known-there (goal.at.write_key-requires c).In_default).length_ok in (
       r.hash_known,
       omega (arith, r.k_length_is, ap length c.k_in-k.ensures, length-take (4 + c.u32_at.result) c.k_in-k.result.now),
       omega (arith, r.kind_most, length-take c.digest_len-kind.result c.h_in.result.now),
@@ -109,5 +110,5 @@ pub returns : goal.returns
 unfolding onto
 returns c =
     let a = c.args in
-    let n = sym c.if-n-ne0.false ∙ c.derive_cause-n.ensures in
+    let n = c.in_default.ensures in
     (n, (λ i. written (goal.at.returns c).After-write_key i ++ drop ((less_none a.len ∙ sym (key-length (goal.at.returns c).After-write_key)) i) a.out.now) ∙ output_accepted _ a.out.now (key_in (decoded a.ex.now) a.letter a.len) (sym n))

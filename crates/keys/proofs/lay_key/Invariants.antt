@@ -1,4 +1,4 @@
-use Prim.Native.Nat.{◌-◌, ◌≤◌, ◌<◌}
+use Prim.Native.Nat.{◌≤◌, ◌<◌}
 use mathlib.Core.Path.{◌≡◌}
 use lib.ListN.{length}
 use Rattle.limits.specs.Limits.{h_size}
@@ -6,7 +6,4 @@ use Rattle.keys.proofs.CodeLaws.{Laid}
 use Rattle.keys.proofs.lay_key.Given as goal
 
 abbrev pub invariant-loop-at : goal.invariant-loop-at
-invariant-loop-at l = Laid l.kind l.kh l.rest l.out l.at × (length l.out ≡ length l.initial.out) × (0 < l.kind) × (l.kind ≤ h_size)
-
-abbrev pub decreases-loop-at : goal.decreases-loop-at
-decreases-loop-at l = length l.out - l.at
+invariant-loop-at l = Laid l.kind l.kh l.rest l.out l.at × (length l.out ≡ length l.fn.out) × (0 < l.kind) × (l.kind ≤ h_size)

@@ -18,7 +18,7 @@ returns-then-n-ne0 c =
     let b = a.ex.now in
     let r = a.room.now in
     let q = own_c a.c.now (length a.out.now) in
-    let m = number_lent b r q [] _ _ _ _ c.step_number-n.ensures.0 refl c.byte_in.ensures c.own_c_cause-fed.ensures in
+    let m = number_lent b r q [] _ _ _ _ c.step_number-n.ensures.0 refl c.byte_in-method.ensures (c.number_told-fed.ensures ∙ c.own_c_cause.ensures) in
     call_refused b r q (a.out.now ∷ []) _ m (fault_read _ b c.step_number-n.ensures.1) c.if-n-ne0.true _ _ _ c.refuse.ensures.0 c.refuse.ensures.1 c.refuse.ensures.2
 
 pub put_init-requires : goal.put_init-requires
@@ -28,7 +28,7 @@ put_init-requires c =
     let b = a.ex.now in
     let r = a.room.now in
     let q = own_c a.c.now (length a.out.now) in
-    let m = number_lent b r q [] _ _ _ _ c.step_number-n.ensures.0 refl c.byte_in.ensures c.own_c_cause-fed.ensures in
+    let m = number_lent b r q [] _ _ _ _ c.step_number-n.ensures.0 refl c.byte_in-method.ensures (c.number_told-fed.ensures ∙ c.own_c_cause.ensures) in
     let o = opened b r q _ m c.step_number-n.ensures.1 c.if-n-ne0.false in
     let e = decoded b in
     let z = o.accepts in
@@ -41,7 +41,7 @@ returns c =
     let b = a.ex.now in
     let r = a.room.now in
     let q = own_c a.c.now (length a.out.now) in
-    let m = number_lent b r q [] _ _ _ _ c.step_number-n.ensures.0 refl c.byte_in.ensures c.own_c_cause-fed.ensures in
+    let m = number_lent b r q [] _ _ _ _ c.step_number-n.ensures.0 refl c.byte_in-method.ensures (c.number_told-fed.ensures ∙ c.own_c_cause.ensures) in
     let o = opened b r q _ m c.step_number-n.ensures.1 c.if-n-ne0.false in
     let e = decoded b in
     let z = o.accepts in

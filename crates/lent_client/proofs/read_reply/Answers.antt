@@ -21,7 +21,7 @@ returns-then-n-ne0 c =
     let b = a.ex.now in
     let r = a.room.now in
     let p = a.payload.now in
-    let m = number_lent b r (reply p) [] _ _ _ _ c.step_number-n.ensures.0 refl c.byte_in.ensures c.reply_cause-fed.ensures in
+    let m = number_lent b r (reply p) [] _ _ _ _ c.step_number-n.ensures.0 refl c.byte_in-method.ensures (c.number_told-fed.ensures ∙ c.reply_cause.ensures) in
     position_behind
     (call_refused b r (reply p) [] _ m (fault_read _ b c.step_number-n.ensures.1) c.if-n-ne0.true _ _ _ c.refuse.ensures.0 c.refuse.ensures.1 c.refuse.ensures.2)
     (c.position.ensures ∙ ap (λ (x : ℕ). position x reply_layout p) (sym c.refuse.ensures.0))
@@ -34,7 +34,7 @@ returns c =
     let r = a.room.now in
     let p = a.payload.now in
     let q = reply p in
-    let m = number_lent b r q [] _ _ _ _ c.step_number-n.ensures.0 refl c.byte_in.ensures c.reply_cause-fed.ensures in
+    let m = number_lent b r q [] _ _ _ _ c.step_number-n.ensures.0 refl c.byte_in-method.ensures (c.number_told-fed.ensures ∙ c.reply_cause.ensures) in
     let o = opened b r q _ m c.step_number-n.ensures.1 c.if-n-ne0.false in
     let e = decoded b in
     let z = o.accepts in

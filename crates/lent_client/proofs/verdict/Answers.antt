@@ -23,7 +23,7 @@ accepts c =
     let b = a.ex.now in
     let r = a.room.now in
     let q = verdict a.signature a.host_key (length a.k_out.now) in
-    opened b r q _ (number_lent b r q [] _ _ _ _ c.step_number-n.ensures.0 refl refl c.verdict_cause-fed.ensures) c.step_number-n.ensures.1 c.if-n-ne0.false
+    opened b r q _ (number_lent b r q [] _ _ _ _ c.step_number-n.ensures.0 refl refl (c.number_told-fed.ensures ∙ c.verdict_cause.ensures)) c.step_number-n.ensures.1 c.if-n-ne0.false
 
 pub returns-then-n-ne0 : goal.returns-then-n-ne0
 unfolding fed_cause
@@ -32,7 +32,7 @@ returns-then-n-ne0 c =
     let b = a.ex.now in
     let r = a.room.now in
     let q = verdict a.signature a.host_key (length a.k_out.now) in
-    let m = number_lent b r q [] _ _ _ _ c.step_number-n.ensures.0 refl refl c.verdict_cause-fed.ensures in
+    let m = number_lent b r q [] _ _ _ _ c.step_number-n.ensures.0 refl refl (c.number_told-fed.ensures ∙ c.verdict_cause.ensures) in
     call_refused b r q (a.k_out.now ∷ []) _ m (fault_read _ b c.step_number-n.ensures.1) c.if-n-ne0.true _ _ _ c.refuse.ensures.0 c.refuse.ensures.1 c.refuse.ensures.2
 
 pub returns : goal.returns

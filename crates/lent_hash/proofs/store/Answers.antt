@@ -14,15 +14,15 @@ use Rattle.lent_hash.proofs.store.Goals as goal
 pub returns : goal.returns
 unfolding state_bytes
 returns c =
-    let s = c.args.s in
+    let s = c.args.s.now in
     let v : length s.value ≡ h_size = search rules in
     let t : length s.tail ≡ block_most = search rules in
-    let total = c.bytes_64-total.ensures in
-    let held = c.bytes_64-held.ensures in
+    let total = c.bytes_64.ensures in
+    let held = c.bytes_64-2.ensures in
     c.put_bytes-5.ensures
     ∙ ap (λ (t : List ℕ). laid t 81 s.tail) (c.put_bytes-4.ensures
     ∙ ap (λ (t : List ℕ). laid t 17 s.value) (c.put_bytes-3.ensures
-    ∙ ap (λ (t : List ℕ). laid t 9 c.bytes_64-held.result) (c.put_bytes-2.ensures
-    ∙ ap (λ (t : List ℕ). laid t 1 c.bytes_64-total.result) c.put_bytes.ensures)))
+    ∙ ap (λ (t : List ℕ). laid t 9 c.bytes_64-2.result) (c.put_bytes-2.ensures
+    ∙ ap (λ (t : List ℕ). laid t 1 c.bytes_64.result) c.put_bytes.ensures)))
     ∙ laid_five c.args.h.now (s.kind ∷ []) _ _ s.value s.tail refl (ap length total ∙ length_bytes_of 8 s.total) (ap length held ∙ length_bytes_of 8 s.held) v t c.requires
     ∙ (λ i. (s.kind ∷ []) ++ total i ++ held i ++ s.value ++ s.tail)

@@ -16,7 +16,7 @@ use Rattle.lent.proofs.RoomLaws.{k_laid, k_length_lem}
 use Rattle.stored.specs.Stored.{decoded}
 use Rattle.lent.proofs.LentLaws.{number_lent, call_refused, fault_read, call_accepted, Opened, opened, refused_stays, completed}
 use Rattle.lent_server.proofs.ServerLaws.{Signable, sign_stays, sign_known, reply_sized, sign_sums, reply_stands, sign_tells, sign_taken, sign_room}
-use Rattle.lent_server.proofs.sign.Goals.{After-field_size-c, After-lengths_in-l, After-part_of-s, After-step_number-n, Else-n-ne0}
+use Rattle.lent_server.proofs.sign.Goals.{After-field_size-c, After-lengths_in-l, After-body_at-s, After-step_number-n, Else-n-ne0}
 use Rattle.lent_server.proofs.sign.Goals as goal
 
 -- where the step is accepted: what its number tells of the bytes, and what the code relies on
@@ -24,7 +24,7 @@ accepts : (j : Else-n-ne0) → let a = j.args in Opened a.ex.now a.room.now (sig
 unfolding fed_cause
 accepts j =
     let a = j.args in
-    opened a.ex.now a.room.now (sign a.signature.now (length a.out.now) (length a.k_out.now)) _ (number_lent a.ex.now a.room.now (sign a.signature.now (length a.out.now) (length a.k_out.now)) [] _ _ _ _ j.step_number-n.ensures.0 refl refl j.sign_cause-fed.ensures) j.step_number-n.ensures.1 j.if-n-ne0.false
+    opened a.ex.now a.room.now (sign a.signature.now (length a.out.now) (length a.k_out.now)) _ (number_lent a.ex.now a.room.now (sign a.signature.now (length a.out.now) (length a.k_out.now)) [] _ _ _ _ j.step_number-n.ensures.0 refl refl (j.number_told-fed.ensures ∙ j.sign_cause.ensures)) j.step_number-n.ensures.1 j.if-n-ne0.false
 
 known : (j : Else-n-ne0) → let a = j.args in Signable (decoded a.ex.now) a.room.now a.signature.now a.out.now a.k_out.now
 known j = let a = j.args in sign_known (decoded a.ex.now) a.room.now a.signature.now a.out.now a.k_out.now (accepts j).accepts
@@ -33,7 +33,7 @@ accepts-After-lengths_in-l : (j : After-lengths_in-l) → let a = j.args in Open
 unfolding fed_cause
 accepts-After-lengths_in-l j =
     let a = j.args in
-    opened a.ex.now a.room.now (sign a.signature.now (length a.out.now) (length a.k_out.now)) _ (number_lent a.ex.now a.room.now (sign a.signature.now (length a.out.now) (length a.k_out.now)) [] _ _ _ _ j.step_number-n.ensures.0 refl refl j.sign_cause-fed.ensures) j.step_number-n.ensures.1 j.if-n-ne0.false
+    opened a.ex.now a.room.now (sign a.signature.now (length a.out.now) (length a.k_out.now)) _ (number_lent a.ex.now a.room.now (sign a.signature.now (length a.out.now) (length a.k_out.now)) [] _ _ _ _ j.step_number-n.ensures.0 refl refl (j.number_told-fed.ensures ∙ j.sign_cause.ensures)) j.step_number-n.ensures.1 j.if-n-ne0.false
 
 -- the lengths are the exchange's
 lens : (c : After-lengths_in-l) → let a = c.args in c.lengths_in-l.result ≡ (decoded a.ex.now).lens
@@ -43,7 +43,7 @@ accepts-After-field_size-c : (j : After-field_size-c) → let a = j.args in Open
 unfolding fed_cause
 accepts-After-field_size-c j =
     let a = j.args in
-    opened a.ex.now a.room.now (sign a.signature.now (length a.out.now) (length a.k_out.now)) _ (number_lent a.ex.now a.room.now (sign a.signature.now (length a.out.now) (length a.k_out.now)) [] _ _ _ _ j.step_number-n.ensures.0 refl refl j.sign_cause-fed.ensures) j.step_number-n.ensures.1 j.if-n-ne0.false
+    opened a.ex.now a.room.now (sign a.signature.now (length a.out.now) (length a.k_out.now)) _ (number_lent a.ex.now a.room.now (sign a.signature.now (length a.out.now) (length a.k_out.now)) [] _ _ _ _ j.step_number-n.ensures.0 refl refl (j.number_told-fed.ensures ∙ j.sign_cause.ensures)) j.step_number-n.ensures.1 j.if-n-ne0.false
 
 lens-After-field_size-c : (c : After-field_size-c) → let a = c.args in c.lengths_in-l.result ≡ (decoded a.ex.now).lens
 lens-After-field_size-c c = c.lengths_in-l.ensures.0 ∙ (accepts-After-field_size-c c).lens_are
@@ -68,41 +68,41 @@ sums c =
     let w = ends c in
     sign_sums (decoded a.ex.now) a.room.now a.signature.now a.out.now a.k_out.now (known-After-field_size-c c) _ _ _ w.0 w.1 w.2
 
-accepts-After-part_of-s : (j : After-part_of-s) → let a = j.args in Opened a.ex.now a.room.now (sign a.signature.now (length a.out.now) (length a.k_out.now))
+accepts-After-body_at-s : (j : After-body_at-s) → let a = j.args in Opened a.ex.now a.room.now (sign a.signature.now (length a.out.now) (length a.k_out.now))
 unfolding fed_cause
-accepts-After-part_of-s j =
+accepts-After-body_at-s j =
     let a = j.args in
-    opened a.ex.now a.room.now (sign a.signature.now (length a.out.now) (length a.k_out.now)) _ (number_lent a.ex.now a.room.now (sign a.signature.now (length a.out.now) (length a.k_out.now)) [] _ _ _ _ j.step_number-n.ensures.0 refl refl j.sign_cause-fed.ensures) j.step_number-n.ensures.1 j.if-n-ne0.false
+    opened a.ex.now a.room.now (sign a.signature.now (length a.out.now) (length a.k_out.now)) _ (number_lent a.ex.now a.room.now (sign a.signature.now (length a.out.now) (length a.k_out.now)) [] _ _ _ _ j.step_number-n.ensures.0 refl refl (j.number_told-fed.ensures ∙ j.sign_cause.ensures)) j.step_number-n.ensures.1 j.if-n-ne0.false
 
-known-After-part_of-s : (j : After-part_of-s) → let a = j.args in Signable (decoded a.ex.now) a.room.now a.signature.now a.out.now a.k_out.now
-known-After-part_of-s j = let a = j.args in sign_known (decoded a.ex.now) a.room.now a.signature.now a.out.now a.k_out.now (accepts-After-part_of-s j).accepts
+known-After-body_at-s : (j : After-body_at-s) → let a = j.args in Signable (decoded a.ex.now) a.room.now a.signature.now a.out.now a.k_out.now
+known-After-body_at-s j = let a = j.args in sign_known (decoded a.ex.now) a.room.now a.signature.now a.out.now a.k_out.now (accepts-After-body_at-s j).accepts
 
-lens-After-part_of-s : (c : After-part_of-s) → let a = c.args in c.lengths_in-l.result ≡ (decoded a.ex.now).lens
-lens-After-part_of-s c = c.lengths_in-l.ensures.0 ∙ (accepts-After-part_of-s c).lens_are
+lens-After-body_at-s : (c : After-body_at-s) → let a = c.args in c.lengths_in-l.result ≡ (decoded a.ex.now).lens
+lens-After-body_at-s c = c.lengths_in-l.ensures.0 ∙ (accepts-After-body_at-s c).lens_are
 
-ends-After-part_of-s : (c : After-part_of-s) →
+ends-After-body_at-s : (c : After-body_at-s) →
     let e = decoded c.args.ex.now in
     (c.head_end-at.result ≡ head_size e.lens) × (c.field_size-a.result ≡ field_size e.lens.ks) × (c.field_size-c.result ≡ field_size e.lens.c)
-ends-After-part_of-s c =
-    let l = lens-After-part_of-s c in (
+ends-After-body_at-s c =
+    let l = lens-After-body_at-s c in (
       c.head_end-at.ensures ∙ ap head_size l,
       c.field_size-a.ensures ∙ ap (λ (x : Lengths). field_size x.ks) l,
       c.field_size-c.ensures ∙ ap (λ (x : Lengths). field_size x.c) l,
     )
 
 -- K_S and S as they stand in the room make REPLY
-stands : (c : After-part_of-s) →
+stands : (c : After-body_at-s) →
     let a = c.args in
-    reply_bytes c.part_of-ks.result.now c.part_of-s.result.now a.signature.now ≡ reply_of (decoded a.ex.now) a.room.now a.signature.now
+    reply_bytes c.body_at-ks.result.now c.body_at-s.result.now a.signature.now ≡ reply_of (decoded a.ex.now) a.room.now a.signature.now
 stands c =
     let a = c.args in
     let r = a.room.now in
-    let w = ends-After-part_of-s c in
-    let l = lens-After-part_of-s c in
+    let w = ends-After-body_at-s c in
+    let l = lens-After-body_at-s c in
     let at = c.head_end-at.result in
-    reply_stands (decoded a.ex.now) r a.signature.now a.out.now a.k_out.now (known-After-part_of-s c) _ _ _ _ _ w.0 w.1 w.2
-    (c.part_of-ks.ensures.0 ∙ ap (λ (x : Lengths). bytes_at r (inside (length r) (part (at + 4) x.ks))) l)
-    (c.part_of-s.ensures.0 ∙ ap (λ (x : Lengths). bytes_at r (inside (length r) (part (at + c.field_size-a.result + c.field_size-c.result + 4) x.s))) l)
+    reply_stands (decoded a.ex.now) r a.signature.now a.out.now a.k_out.now (known-After-body_at-s c) _ _ _ _ _ w.0 w.1 w.2
+    (c.body_at-ks.ensures ∙ ap (λ (x : Lengths). bytes_at r (inside (length r) (part (at + 4) x.ks))) l)
+    (c.body_at-s.ensures ∙ ap (λ (x : Lengths). bytes_at r (inside (length r) (part (at + c.field_size-a.result + c.field_size-c.result + 4) x.s))) l)
 
 pub returns-then-n-ne0 : goal.returns-then-n-ne0
 unfolding fed_cause
@@ -110,7 +110,7 @@ returns-then-n-ne0 c =
     let a = c.args in
     let b = a.ex.now in
     let r = a.room.now in
-    let m = number_lent b r (sign a.signature.now (length a.out.now) (length a.k_out.now)) [] _ _ _ _ c.step_number-n.ensures.0 refl refl c.sign_cause-fed.ensures in
+    let m = number_lent b r (sign a.signature.now (length a.out.now) (length a.k_out.now)) [] _ _ _ _ c.step_number-n.ensures.0 refl refl (c.number_told-fed.ensures ∙ c.sign_cause.ensures) in
     let f = sign_stays b r a.signature.now a.out.now a.k_out.now _ m in
     call_refused b r (sign a.signature.now (length a.out.now) (length a.k_out.now)) (a.out.now ∷ a.k_out.now ∷ []) _ m (fault_read _ b c.step_number-n.ensures.1) c.if-n-ne0.true _ _ _ refl (refused_stays _ b b _ f) (refused_stays _ b r _ f)
 
@@ -130,7 +130,7 @@ pub put_reply-requires : goal.put_reply-requires
 put_reply-requires c =
     let a = c.args in
     let h = known (goal.at.put_reply-requires c).Else-n-ne0 in
-    let u = ap length (stands (goal.at.put_reply-requires c).After-part_of-s) ∙ reply_sized (decoded a.ex.now) a.room.now a.signature.now a.out.now a.k_out.now h in
+    let u = ap length (stands (goal.at.put_reply-requires c).After-body_at-s) ∙ reply_sized (decoded a.ex.now) a.room.now a.signature.now a.out.now a.k_out.now h in
     omega (arith, h.ks_most, h.s_most, h.g_most, h.out_least)
 
 pub overflow_add-counts : goal.overflow_add-counts
@@ -166,7 +166,7 @@ returns c =
     let o = accepts (goal.at.returns c).Else-n-ne0 in
     let h = known (goal.at.returns c).Else-n-ne0 in
     let l = lens (goal.at.returns c).After-lengths_in-l in
-    let t = stands (goal.at.returns c).After-part_of-s in
+    let t = stands (goal.at.returns c).After-body_at-s in
     let n = reply_sized e r a.signature.now a.out.now a.k_out.now h in
     call_accepted b r (sign a.signature.now (length a.out.now) (length a.k_out.now)) (a.out.now ∷ a.k_out.now ∷ []) o.fitting o.accepts _ _ _ _
     (sign_tells e r a.signature.now a.out.now a.k_out.now o.accepts _ _ (ap (λ (x : Lengths). 13 + x.ks + x.s + length a.signature.now) l ∙ sym n) (c.finish-size.ensures.0 ∙ k_length_lem e.k _ o.k_size_is (ap (λ (k : List ℕ). number_at k 0) o.k_is)))

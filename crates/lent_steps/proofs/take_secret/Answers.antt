@@ -7,13 +7,12 @@ use lib.ListN.{length, take}
 use native.Mathlib.Omega.{arith}
 use Rattle.limits.specs.Limits.{room_least}
 use Rattle.buffers.specs.Bytes.{laid}
-use Rattle.secret.specs.Secret.{kept}
 use Rattle.exchange.specs.Causes.{method_ok, k_of, h_of}
 use Rattle.exchange.specs.Steps.{secret, k_record, fed_cause}
 use Rattle.stored.specs.Stored.{decoded, by_size}
 use Rattle.lent.proofs.LentLaws.{number_lent, call_refused, fault_read, call_accepted, Opened, opened}
 use Rattle.stored.proofs.StoredLaws.{method_read}
-use Rattle.lent_steps.proofs.SecretStepLaws.{SecretFits, secret_fits, key_kept, Done, secret_done}
+use Rattle.lent_steps.proofs.SecretStepLaws.{SecretFits, secret_fits, Done, secret_done}
 use Rattle.lent_steps.proofs.take_secret.Goals.{After-join_hash-arg-1, After-k_by_method-key, After-slice_known-6-1, After-step_number-n, Else-n-ne0}
 use Rattle.lent_steps.proofs.take_secret.Goals as goal
 
@@ -22,7 +21,7 @@ accepts : (j : Else-n-ne0) → let a = j.args in Opened a.ex.now a.room.now (sec
 unfolding fed_cause
 accepts j =
     let a = j.args in
-    opened a.ex.now a.room.now (secret a.cl a.x.now a.kem a.k_pq.now a.ks.now a.s.now) _ (number_lent a.ex.now a.room.now (secret a.cl a.x.now a.kem a.k_pq.now a.ks.now a.s.now) [] _ _ _ _ j.step_number-n.ensures.0 j.byte_in-role.ensures j.byte_in-method.ensures j.secret_cause-fed.ensures) j.step_number-n.ensures.1 j.if-n-ne0.false
+    opened a.ex.now a.room.now (secret a.cl a.x.now a.kem a.k_pq.now a.ks.now a.s.now) _ (number_lent a.ex.now a.room.now (secret a.cl a.x.now a.kem a.k_pq.now a.ks.now a.s.now) [] _ _ _ _ j.step_number-n.ensures.0 j.byte_in-role.ensures j.byte_in-method.ensures (j.number_told-fed.ensures ∙ j.secret_cause.ensures)) j.step_number-n.ensures.1 j.if-n-ne0.false
 
 -- and of what is handed in
 fit : (j : Else-n-ne0) → let a = j.args in SecretFits (decoded a.ex.now) a.room.now a.x.now a.k_pq.now
@@ -38,7 +37,7 @@ accepts-After-k_by_method-key : (j : After-k_by_method-key) → let a = j.args i
 unfolding fed_cause
 accepts-After-k_by_method-key j =
     let a = j.args in
-    opened a.ex.now a.room.now (secret a.cl a.x.now a.kem a.k_pq.now a.ks.now a.s.now) _ (number_lent a.ex.now a.room.now (secret a.cl a.x.now a.kem a.k_pq.now a.ks.now a.s.now) [] _ _ _ _ j.step_number-n.ensures.0 j.byte_in-role.ensures j.byte_in-method.ensures j.secret_cause-fed.ensures) j.step_number-n.ensures.1 j.if-n-ne0.false
+    opened a.ex.now a.room.now (secret a.cl a.x.now a.kem a.k_pq.now a.ks.now a.s.now) _ (number_lent a.ex.now a.room.now (secret a.cl a.x.now a.kem a.k_pq.now a.ks.now a.s.now) [] _ _ _ _ j.step_number-n.ensures.0 j.byte_in-role.ensures j.byte_in-method.ensures (j.number_told-fed.ensures ∙ j.secret_cause.ensures)) j.step_number-n.ensures.1 j.if-n-ne0.false
 
 fit-After-k_by_method-key : (j : After-k_by_method-key) → let a = j.args in SecretFits (decoded a.ex.now) a.room.now a.x.now a.k_pq.now
 fit-After-k_by_method-key j =
@@ -55,13 +54,14 @@ key : (c : After-k_by_method-key) →
     (c.k_by_method-key.result.len ≡ length k) × (c.k_by_method-key.result.bytes ≡ k_record k)
 key c =
     let a = c.args in
-    key_kept _ c.k_by_method-key.result (fit-After-k_by_method-key c).k_fits_is (c.k_by_method-key.ensures ∙ ap (λ (m : ℕ). kept (k_of m a.x.now a.k_pq.now)) (method-is-After-k_by_method-key c))
+    let k = ap (λ (m : ℕ). k_of m a.x.now a.k_pq.now) (method-is-After-k_by_method-key c) in
+    (c.k_by_method-key.ensures.0 ∙ ap length k, c.k_by_method-key.ensures.1 ∙ ap k_record k)
 
 accepts-After-join_hash-arg-1 : (j : After-join_hash-arg-1) → let a = j.args in Opened a.ex.now a.room.now (secret a.cl a.x.now a.kem a.k_pq.now a.ks.now a.s.now)
 unfolding fed_cause
 accepts-After-join_hash-arg-1 j =
     let a = j.args in
-    opened a.ex.now a.room.now (secret a.cl a.x.now a.kem a.k_pq.now a.ks.now a.s.now) _ (number_lent a.ex.now a.room.now (secret a.cl a.x.now a.kem a.k_pq.now a.ks.now a.s.now) [] _ _ _ _ j.step_number-n.ensures.0 j.byte_in-role.ensures j.byte_in-method.ensures j.secret_cause-fed.ensures) j.step_number-n.ensures.1 j.if-n-ne0.false
+    opened a.ex.now a.room.now (secret a.cl a.x.now a.kem a.k_pq.now a.ks.now a.s.now) _ (number_lent a.ex.now a.room.now (secret a.cl a.x.now a.kem a.k_pq.now a.ks.now a.s.now) [] _ _ _ _ j.step_number-n.ensures.0 j.byte_in-role.ensures j.byte_in-method.ensures (j.number_told-fed.ensures ∙ j.secret_cause.ensures)) j.step_number-n.ensures.1 j.if-n-ne0.false
 
 fit-After-join_hash-arg-1 : (j : After-join_hash-arg-1) → let a = j.args in SecretFits (decoded a.ex.now) a.room.now a.x.now a.k_pq.now
 fit-After-join_hash-arg-1 j =
@@ -77,7 +77,8 @@ key-After-join_hash-arg-1 : (c : After-join_hash-arg-1) →
     (c.k_by_method-key.result.len ≡ length k) × (c.k_by_method-key.result.bytes ≡ k_record k)
 key-After-join_hash-arg-1 c =
     let a = c.args in
-    key_kept _ c.k_by_method-key.result (fit-After-join_hash-arg-1 c).k_fits_is (c.k_by_method-key.ensures ∙ ap (λ (m : ℕ). kept (k_of m a.x.now a.k_pq.now)) (method-is-After-join_hash-arg-1 c))
+    let k = ap (λ (m : ℕ). k_of m a.x.now a.k_pq.now) (method-is-After-join_hash-arg-1 c) in
+    (c.k_by_method-key.ensures.0 ∙ ap length k, c.k_by_method-key.ensures.1 ∙ ap k_record k)
 
 -- so all is as the step has it, and the count is small
 done : (c : After-join_hash-arg-1) →
@@ -110,11 +111,13 @@ returns-then-n-ne0 c =
     let b = a.ex.now in
     let r = a.room.now in
     let q = secret a.cl a.x.now a.kem a.k_pq.now a.ks.now a.s.now in
-    let m = number_lent b r q [] _ _ _ _ c.step_number-n.ensures.0 c.byte_in-role.ensures c.byte_in-method.ensures c.secret_cause-fed.ensures in
+    let m = number_lent b r q [] _ _ _ _ c.step_number-n.ensures.0 c.byte_in-role.ensures c.byte_in-method.ensures (c.number_told-fed.ensures ∙ c.secret_cause.ensures) in
     call_refused b r q ([]) _ m (fault_read _ b c.step_number-n.ensures.1) c.if-n-ne0.true _ _ _ c.refuse.ensures.0 c.refuse.ensures.1 c.refuse.ensures.2
 
 pub k_by_method-key-requires : goal.k_by_method-key-requires
-k_by_method-key-requires c = (ap method_ok (method-is c) ∙ (fit c).method_ok_is, (fit c).hash_fits)
+k_by_method-key-requires c =
+    let k = ap (λ (m : ℕ). length (k_of m c.args.x.now c.args.k_pq.now)) (method-is c) in
+    (ap method_ok (method-is c) ∙ (fit c).method_ok_is, (fit c).hash_fits, omega (arith, k, (fit c).k_fits_is))
 
 pub overflow_add-end : goal.overflow_add-end
 overflow_add-end c = let w = (done (goal.at.overflow_add-end c).After-join_hash-arg-1).1 in record { fits = omega arith }

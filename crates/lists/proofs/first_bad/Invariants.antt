@@ -1,11 +1,8 @@
 use Rattle.limits.specs.Limits.{list_count}
-use Prim.Native.Nat.{◌-◌, ◌≤◌}
+use Prim.Native.Nat.{◌-◌}
 use mathlib.Core.Path.{◌≡◌}
 use Rattle.lists.specs.Lists.{bad_at, first_bad}
 use Rattle.lists.proofs.first_bad.Given as goal
 
 abbrev pub invariant-loop-i : goal.invariant-loop-i
-invariant-loop-i l = (l.i ≤ list_count) × (bad_at l.lists l.ends l.at l.i (list_count - l.i) ≡ first_bad l.lists l.ends)
-
-abbrev pub decreases-loop-i : goal.decreases-loop-i
-decreases-loop-i l = list_count - l.i
+invariant-loop-i l = bad_at l.lists l.ends l.at l.i (list_count - l.i) ≡ first_bad l.lists l.ends

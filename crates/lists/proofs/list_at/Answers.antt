@@ -1,10 +1,7 @@
 -- `lists::list_at` meets its contract. Assumes nothing.
-use mathlib.Core.Path.{◌∙◌}
-use Rattle.lists.proofs.ListsLaws.{list_none, list_part_lem}
+use Rattle.std.proofs.Common.{List, ℕ, ◌∙◌, Bor, refl, ap}
+use Rattle.lists.proofs.ListsLaws.{list_got}
 use Rattle.lists.proofs.list_at.Goals as goal
 
-pub returns-then-to-from : goal.returns-then-to-from
-returns-then-to-from c = list_none c.args.lists.now _ _ c.if-to-from.true
-
 pub returns : goal.returns
-returns c = c.part_of.ensures.0 ∙ list_part_lem c.args.lists.now _ _ c.if-to-from.false
+returns c = ap (λ (b : Bor (List ℕ)). b.now) c.unwrap_or.ensures ∙ list_got c.args.lists.now c.args.from c.args.to c.get.result _ c.get.ensures.lookup refl

@@ -64,7 +64,8 @@ put_lists-requires c =
     let k = a.cookie.now in
     let s = a.lists.now in
     let e = a.ends.now in
-    lists-fit k s e a.follows a.reserved o _ c.first_bad-bad.ensures c.if-bad-ne0.false (omega arith) (omega arith) c.if-cookie-ne-COOKIE_SIZE.false (omega arith) c.if-out-total.false _ c.put_bytes.ensures
+    let f = lists-fit k s e a.follows a.reserved o _ c.first_bad-bad.ensures c.if-bad-ne0.false (omega arith) (omega arith) c.if-cookie-ne-COOKIE_SIZE.false (omega arith) c.if-out-total.false _ c.put_bytes.ensures in
+    omega arith
 
 pub bounds-out-end : goal.bounds-out-end
 bounds-out-end c =

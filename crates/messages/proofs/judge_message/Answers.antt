@@ -1,83 +1,87 @@
 -- `messages::judge_message` meets its contract. Assumes nothing.
-use mathlib.Core.Path.{◌≡◌, refl, sym, ap, ◌∙◌}
+use Prim.Native.Nat.{ℕ, ◌+◌, ◌<◌}
+use mathlib.Core.Path.{◌≡◌, refl, sym, ◌∙◌}
+use mathlib.Core.List.{List}
 use mathlib.Core.Bool.{true, false}
 use native.Mathlib.Omega.{arith}
+use lib.ListN.{length, get_or}
+use borrow.Author.Rules.{rules}
+use Rattle.std.specs.Prelude.{Ok}
+use Rattle.limits.specs.Range.{within}
+use Rattle.limits.proofs.RangeLaws.{within_least, within_most}
 use Rattle.wire.specs.Strings.{walk}
-use Rattle.wire.specs.declared.Walk.{Walk}
+use Rattle.wire.specs.Told.{walk_told}
 use Rattle.messages.specs.Payload.{strings_end, fields_fit, message_cause}
-use Rattle.messages.proofs.PayloadLaws.{fit_not_strings, fit_not_behind, fit_is, cause_empty, cause_long, cause_other, cause_cut, cause_more, cause_none, judged_refused, judged_good}
-use Rattle.messages.proofs.judge_message.Goals.{After-skip_strings-w, Else-payload-place-2}
+use Rattle.messages.specs.declared.Layout.{Layout}
+use Rattle.messages.proofs.PayloadLaws.{walk_passed, fit_not_strings, fit_not_behind, fit_is, cause_size, cause_other, cause_cut, cause_more, cause_none, judged_refused, judged_good}
+use Rattle.messages.proofs.judge_message.Goals.{In_ok-left}
 use Rattle.messages.proofs.judge_message.Goals as goal
 
--- ---- what is known behind the strings
-walked : (s : After-skip_strings-w) →
-    let a = s.args in
-    ((walk a.payload.now a.l.first a.l.count).number ≡ s.skip_strings-w.result.number) × (s.skip_strings-w.result.place ≡ strings_end a.l a.payload.now)
-walked s = let w = s.skip_strings-w.ensures in (sym (ap (λ (x : Walk). x.number) w), ap (λ (x : Walk). x.place) w)
+-- a field passes the end of a payload of the right size and message number
+cut : (l : Layout) (p : List ℕ) → within 1 l.most (length p) ≡ true → get_or p 0 0 ≡ l.byte → fields_fit l p ≡ false → message_cause l p ≡ 12
+cut l p s b = cause_cut l p (within_least 1 l.most (length p) s) (within_most 1 l.most (length p) s) b
 
-cut : (s : After-skip_strings-w) →
-    let a = s.args in
-    fields_fit a.l a.payload.now ≡ false → message_cause a.l a.payload.now ≡ 12
-cut s f =
-    let a = s.args in
-    cause_cut a.l a.payload.now s.if-payload-lt1.false s.if-l-payload.false s.if-payload-l.false f
+-- where the strings end, and how many bytes are left behind them
+passed : (k : In_ok-left) →
+    let l = k.args.l in
+    let p = k.args.payload.now in
+    ((walk p l.first l.count).number ≡ 0) × (k.in_ok-place.place ≡ strings_end l p) × (strings_end l p + k.in_ok-left.left ≡ length p)
+passed k =
+    let e : walk_told (Ok k.in_ok-place.place) ≡ walk k.args.payload.now k.args.l.first k.args.l.count = search rules in
+    let w = walk_passed k.args.l k.args.payload.now _ e in
+    (w.0, w.1, search (rules, w.1))
 
-walked_past : (s : Else-payload-place-2) →
-    let a = s.args in
-    ((walk a.payload.now a.l.first a.l.count).number ≡ s.skip_strings-w.result.number) × (s.skip_strings-w.result.place ≡ strings_end a.l a.payload.now)
-walked_past s = let w = s.skip_strings-w.ensures in (sym (ap (λ (x : Walk). x.number) w), ap (λ (x : Walk). x.place) w)
-
-fits : (e6 : Else-payload-place-2) →
-    let a = e6.args in
-    fields_fit a.l a.payload.now ≡ true
-fits e6 =
-    let w = walked_past e6 in
-    let a = e6.args in
-    fit_is a.l a.payload.now (w.0 ∙ e6.if-w-ne0.false) (omega (arith, w.1, e6.if-payload-place-2.false, e6.if-payload-place.false))
-
-pub returns-then-payload-lt1 : goal.returns-then-payload-lt1
-returns-then-payload-lt1 c =
+pub returns-then-not-in_range : goal.returns-then-not-in_range
+returns-then-not-in_range c =
     let l = c.args.l in
     let p = c.args.payload.now in
-    judged_refused l p _ 10 c.refused.ensures (cause_empty l p c.if-payload-lt1.true) refl
-
-pub returns-then-l-payload : goal.returns-then-l-payload
-returns-then-l-payload c =
-    let l = c.args.l in
-    let p = c.args.payload.now in
-    judged_refused l p _ 10 c.refused-then-l-payload.ensures (cause_long l p c.if-l-payload.true) refl
+    judged_refused l p 10 (cause_size l p (sym c.in_range.ensures ∙ c.if-not-in_range.true)) refl
 
 pub returns-then-payload-l : goal.returns-then-payload-l
 returns-then-payload-l c =
     let l = c.args.l in
     let p = c.args.payload.now in
-    judged_refused l p _ 11 c.refused-then-payload-l.ensures (cause_other l p c.if-payload-lt1.false c.if-l-payload.false c.if-payload-l.true) refl
+    let s = sym c.in_range.ensures ∙ c.if-not-in_range.false in
+    judged_refused l p 11 (cause_other l p (within_least 1 l.most (length p) s) (within_most 1 l.most (length p) s) c.if-payload-l.true) refl
 
-pub returns-then-w-ne0 : goal.returns-then-w-ne0
-returns-then-w-ne0 c =
-    let a = c.args in
-    judged_refused a.l a.payload.now _ 12 c.refused-then-w-ne0.ensures (cut (goal.at.returns-then-w-ne0 c).After-skip_strings-w (fit_not_strings a.l a.payload.now (λ (x : (walk a.payload.now a.l.first a.l.count).number ≡ 0). c.if-w-ne0.true (sym (walked (goal.at.returns-then-w-ne0 c).After-skip_strings-w).0 ∙ x)))) refl
+pub returns-in_err-place : goal.returns-in_err-place
+returns-in_err-place c =
+    let l = c.args.l in
+    let p = c.args.payload.now in
+    let s = sym c.in_range.ensures ∙ c.if-not-in_range.false in
+    let w : ¬ ((walk p l.first l.count).number ≡ 0) = search rules in
+    let j = judged_refused l p 12 (cut l p s c.if-payload-l.false (fit_not_strings l p w)) refl in
+    search (rules, j)
 
-pub returns-then-payload-place : goal.returns-then-payload-place
-returns-then-payload-place c =
-    let a = c.args in
-    let w = walked (goal.at.returns-then-payload-place c).After-skip_strings-w in
-    judged_refused a.l a.payload.now _ 12 c.refused-then-payload-place.ensures (cut (goal.at.returns-then-payload-place c).After-skip_strings-w (fit_not_behind a.l a.payload.now (omega (arith, w.1, c.if-payload-place.true)))) refl
+pub returns-in_err-left : goal.returns-in_err-left
+returns-in_err-left c =
+    let l = c.args.l in
+    let p = c.args.payload.now in
+    let s = sym c.in_range.ensures ∙ c.if-not-in_range.false in
+    let h : length p < strings_end l p = search rules in
+    let j = judged_refused l p 12 (cut l p s c.if-payload-l.false (fit_not_behind l p (omega (arith, h)))) refl in
+    search (rules, j)
 
-pub returns-then-payload-place-2 : goal.returns-then-payload-place-2
-returns-then-payload-place-2 c =
-    let a = c.args in
-    let w = walked (goal.at.returns-then-payload-place-2 c).After-skip_strings-w in
-    judged_refused a.l a.payload.now _ 12 c.refused-then-payload-place-2.ensures (cut (goal.at.returns-then-payload-place-2 c).After-skip_strings-w (fit_not_behind a.l a.payload.now (omega (arith, w.1, c.if-payload-place-2.true, c.if-payload-place.false)))) refl
+pub returns-then-left-l : goal.returns-then-left-l
+returns-then-left-l c =
+    let l = c.args.l in
+    let p = c.args.payload.now in
+    let s = sym c.in_range.ensures ∙ c.if-not-in_range.false in
+    let w = passed (goal.at.returns-then-left-l c).In_ok-left in
+    judged_refused l p 12 (cut l p s c.if-payload-l.false (fit_not_behind l p (omega (arith, w)))) refl
 
-pub returns-then-l-payload-2 : goal.returns-then-l-payload-2
-returns-then-l-payload-2 c =
-    let a = c.args in
-    let w = walked (goal.at.returns-then-l-payload-2 c).After-skip_strings-w in
-    judged_refused a.l a.payload.now _ 13 c.refused-then-l-payload-2.ensures (cause_more a.l a.payload.now c.if-payload-lt1.false c.if-l-payload.false c.if-payload-l.false (fits (goal.at.returns-then-l-payload-2 c).Else-payload-place-2) (omega (arith, w.1, c.if-l-payload-2.true, c.if-payload-place.false))) refl
+pub returns-then-l-left : goal.returns-then-l-left
+returns-then-l-left c =
+    let l = c.args.l in
+    let p = c.args.payload.now in
+    let s = sym c.in_range.ensures ∙ c.if-not-in_range.false in
+    let w = passed (goal.at.returns-then-l-left c).In_ok-left in
+    judged_refused l p 13 (cause_more l p (within_least 1 l.most (length p) s) (within_most 1 l.most (length p) s) c.if-payload-l.false (fit_is l p w.0 (omega (arith, w))) (omega (arith, w))) refl
 
 pub returns : goal.returns
 returns c =
-    let a = c.args in
-    let w = walked (goal.at.returns c).After-skip_strings-w in
-    judged_good a.l a.payload.now _ w.1 (cause_none a.l a.payload.now c.if-payload-lt1.false c.if-l-payload.false c.if-payload-l.false (fits (goal.at.returns c).Else-payload-place-2) (omega (arith, w.1, c.if-l-payload-2.false, c.if-payload-place.false)))
+    let l = c.args.l in
+    let p = c.args.payload.now in
+    let s = sym c.in_range.ensures ∙ c.if-not-in_range.false in
+    let w = passed (goal.at.returns c).In_ok-left in
+    judged_good l p _ w.1 (cause_none l p (within_least 1 l.most (length p) s) (within_most 1 l.most (length p) s) c.if-payload-l.false (fit_is l p w.0 (omega (arith, w))) (omega (arith, w)))

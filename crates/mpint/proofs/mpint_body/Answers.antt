@@ -1,12 +1,10 @@
 -- `mpint::mpint_body` meets its contract. Assumes nothing.
-use mathlib.Core.Path.{ap}
 use Rattle.wire.proofs.PartLaws.{part_read}
-use Rattle.mpint.specs.declared.MpintRead.{MpintRead}
-use Rattle.mpint.proofs.MpintLaws.{mpint_within}
+use Rattle.mpint.proofs.MpintLaws.{mpint_within, parts_found}
 use Rattle.mpint.proofs.mpint_body.Goals as goal
 
 pub returns : goal.returns
 returns c =
     let s = c.args.s in
-    let r = c.read_mpint-r in
-    part_read _ s.now s c.part_of.result r.result.body _ (ap (λ (x : MpintRead). x.body) r.ensures) (mpint_within s.now).0 c.part_of.ensures
+    let f = parts_found s.now _ _ c.unwrap_or_default.ensures c.read_mpint.ensures in
+    part_read _ s.now s c.part_of.result _ _ f.0 (mpint_within s.now).0 c.part_of.ensures

@@ -9,4 +9,4 @@ pub returns : goal.returns
 returns c =
     let a = c.args in
     let p = a.payload.now in
-    part_read (length p) p a.payload c.part_of.result c.init_part-p.result (step_part a.e a.room.now (init p) p 0) c.init_part-p.ensures (step_part_within a.e a.room.now (init p) p 0) c.part_of.ensures
+    part_read (length p) p a.payload c.part_of.result c.init_part.result (step_part a.e a.room.now (init p) p 0) c.init_part.ensures (step_part_within a.e a.room.now (init p) p 0) c.part_of.ensures

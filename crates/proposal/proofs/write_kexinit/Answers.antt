@@ -1,138 +1,84 @@
 -- `proposal::write_kexinit` meets its contract. Assumes nothing.
+use Rattle.std.proofs.Common.{ℕ, Bool, true, false, cond, refl, sym, ◌+◌, ◌≡◌, ◌≤◌, ◌∙◌, length, ap, arith}
 use borrow.Author.Rules.{rules}
-use native.Mathlib.Omega.{arith}
-use mathlib.Core.Path.{◌≡◌, ap, ◌∙◌}
-use Prim.Native.Nat.{ℕ, ◌+◌}
-use mathlib.Core.List.{[], ◌∷◌, ◌++◌}
-use lib.ListN.{length, set}
+use lib.ListN.{set}
+use mir.Val.{bool_byte}
+use Rattle.limits.specs.Limits.{kexinit_most}
+use Rattle.buffers.specs.Bytes.{laid}
+use Rattle.wire.specs.Strings.{bytes32, strings}
 use Rattle.writers.proofs.WriterLaws.{writer_refused, writer_done}
 use Rattle.proposal.specs.Proposal.{kexinit_of, kexinit}
-use Rattle.proposal.proofs.WriterLaws.{total_two, total_runs, write_cookie, write_lists, write_short, write_none, length_total, message_laid, laid_length, stored_length}
-use Rattle.buffers.specs.Bytes.{laid}
-use Rattle.wire.specs.Strings.{bytes32}
+use Rattle.proposal.specs.Total.{bodies, total}
+use Rattle.proposal.proofs.WriterLaws.{total_none, total_some, total_true, write_cookie, write_lists, write_short, write_none, length_total, message_laid, laid_length, stored_length}
+use Rattle.proposal.proofs.write_kexinit.Goals.{In_ok-total}
 use Rattle.proposal.proofs.write_kexinit.Goals as goal
+
+-- a boolean's byte
+byte_of : (f : Bool) → bool_byte f ≡ cond f 1 0
+byte_of true = refl
+byte_of false = refl
+
+-- the total that was found
+total-is : (k : In_ok-total) →
+    let l = bodies k.args.lists.now in
+    (k.in_ok-total.total ≡ total 22 l) × (total 22 l ≤ kexinit_most) × (total 22 l ≡ 22 + length (strings l))
+total-is k =
+    let t = total_some _ _ (sym k.in_ok-total.ensures.ok_part ∙ k.total_of.ensures) in
+    (t.0, t.1, total_true 22 _ t.1)
 
 pub returns-then-cookie-ne-COOKIE_SIZE : goal.returns-then-cookie-ne-COOKIE_SIZE
 returns-then-cookie-ne-COOKIE_SIZE c =
     let a = c.args in
-    let x = (a.kex.now ∷ a.host_key.now ∷ a.cipher_in.now ∷ a.cipher_out.now ∷ a.mac_in.now ∷ []) in
-    let y = (a.mac_out.now ∷ a.compression_in.now ∷ a.compression_out.now ∷ a.language_in.now ∷ a.language_out.now ∷ []) in
-    let k = kexinit_of a.cookie.now (x ++ y) a.follows a.reserved in
     let o = a.out.now in
+    let k = kexinit_of a.cookie.now (bodies a.lists.now) a.follows a.reserved in
     writer_refused _ (kexinit k) o 4 (omega arith) (write_cookie k (length o) (λ e. omega (arith, e)))
 
-pub returns-then-total-gt-KEXINIT_MOST : goal.returns-then-total-gt-KEXINIT_MOST
-returns-then-total-gt-KEXINIT_MOST c =
+pub returns-in_err-total : goal.returns-in_err-total
+returns-in_err-total c =
     let a = c.args in
-    let x = (a.kex.now ∷ a.host_key.now ∷ a.cipher_in.now ∷ a.cipher_out.now ∷ a.mac_in.now ∷ []) in
-    let y = (a.mac_out.now ∷ a.compression_in.now ∷ a.compression_out.now ∷ a.language_in.now ∷ a.language_out.now ∷ []) in
-    let k = kexinit_of a.cookie.now (x ++ y) a.follows a.reserved in
     let o = a.out.now in
-    let t = total_two x y _ _ c.with_five-half.ensures c.with_five-total.ensures in
-    writer_refused _ (kexinit k) o 4 (omega arith) (write_lists k (length o) (omega arith) (omega arith))
+    let k = kexinit_of a.cookie.now (bodies a.lists.now) a.follows a.reserved in
+    let t = total_none (total 22 k.lists) (sym c.in_err-total.ensures.ok_part ∙ c.total_of.ensures) in
+    let r = writer_refused _ (kexinit k) o 4 (omega arith) (write_lists k (length o) (omega arith) t) in
+    search (rules, r)
 
 pub returns-then-out-total : goal.returns-then-out-total
 returns-then-out-total c =
     let a = c.args in
-    let x = (a.kex.now ∷ a.host_key.now ∷ a.cipher_in.now ∷ a.cipher_out.now ∷ a.mac_in.now ∷ []) in
-    let y = (a.mac_out.now ∷ a.compression_in.now ∷ a.compression_out.now ∷ a.language_in.now ∷ a.language_out.now ∷ []) in
-    let k = kexinit_of a.cookie.now (x ++ y) a.follows a.reserved in
     let o = a.out.now in
-    let t = total_two x y _ _ c.with_five-half.ensures c.with_five-total.ensures in
-    writer_refused _ (kexinit k) o 5 (omega arith) (write_short k (length o) (omega arith) (omega arith) (omega arith))
+    let k = kexinit_of a.cookie.now (bodies a.lists.now) a.follows a.reserved in
+    let t = total-is (goal.at.returns-then-out-total c).In_ok-total in
+    writer_refused _ (kexinit k) o 5 (omega arith) (write_short k (length o) (omega arith) t.1 (omega (arith, t.0)))
 
 pub bounds-out-0 : goal.bounds-out-0
-bounds-out-0 c =
-    let a = c.args in
-    let x = (a.kex.now ∷ a.host_key.now ∷ a.cipher_in.now ∷ a.cipher_out.now ∷ a.mac_in.now ∷ []) in
-    let y = (a.mac_out.now ∷ a.compression_in.now ∷ a.compression_out.now ∷ a.language_in.now ∷ a.language_out.now ∷ []) in
-    let t = total_two x y _ _ c.with_five-half.ensures c.with_five-total.ensures in
-    let n = total_runs x y (omega arith) in
-    omega arith
+bounds-out-0 c = let t = total-is (goal.at.bounds-out-0 c).In_ok-total in omega (arith, t)
 
-pub put_five-middle-requires : goal.put_five-middle-requires
-put_five-middle-requires c =
-    let a = c.args in
-    let x = (a.kex.now ∷ a.host_key.now ∷ a.cipher_in.now ∷ a.cipher_out.now ∷ a.mac_in.now ∷ []) in
-    let y = (a.mac_out.now ∷ a.compression_in.now ∷ a.compression_out.now ∷ a.language_in.now ∷ a.language_out.now ∷ []) in
-    let t = total_two x y _ _ c.with_five-half.ensures c.with_five-total.ensures in
-    let b = c.if-total-gt-KEXINIT_MOST.false in
-    let n = total_runs x y (omega arith) in
-    let f = c.if-out-total.false in
-    let m1 : length c.put_bytes.new.out ≡ length a.out.now = stored_length _ a.out.now _ _ 0 20 c.put_bytes.ensures in
-    omega arith
-
-pub put_five-end-requires : goal.put_five-end-requires
-put_five-end-requires c =
-    let a = c.args in
-    let x = (a.kex.now ∷ a.host_key.now ∷ a.cipher_in.now ∷ a.cipher_out.now ∷ a.mac_in.now ∷ []) in
-    let y = (a.mac_out.now ∷ a.compression_in.now ∷ a.compression_out.now ∷ a.language_in.now ∷ a.language_out.now ∷ []) in
-    let t = total_two x y _ _ c.with_five-half.ensures c.with_five-total.ensures in
-    let b = c.if-total-gt-KEXINIT_MOST.false in
-    let n = total_runs x y (omega arith) in
-    let f = c.if-out-total.false in
-    let m1 : length c.put_bytes.new.out ≡ length a.out.now = stored_length _ a.out.now _ _ 0 20 c.put_bytes.ensures in
-    let r1 = c.put_five-middle.ensures.0 in
-    let m2 : length c.put_five-middle.new.out ≡ length c.put_bytes.new.out = laid_length _ _ _ _ c.put_five-middle.ensures.1 in
-    omega arith
+pub put_lists-end-requires : goal.put_lists-end-requires
+put_lists-end-requires c =
+    let t = total-is (goal.at.put_lists-end-requires c).In_ok-total in
+    let m1 = stored_length _ _ _ _ 0 20 c.put_bytes.ensures in
+    omega (arith, t, m1)
 
 pub bounds-out-end : goal.bounds-out-end
 bounds-out-end c =
-    let a = c.args in
-    let x = (a.kex.now ∷ a.host_key.now ∷ a.cipher_in.now ∷ a.cipher_out.now ∷ a.mac_in.now ∷ []) in
-    let y = (a.mac_out.now ∷ a.compression_in.now ∷ a.compression_out.now ∷ a.language_in.now ∷ a.language_out.now ∷ []) in
-    let t = total_two x y _ _ c.with_five-half.ensures c.with_five-total.ensures in
-    let b = c.if-total-gt-KEXINIT_MOST.false in
-    let n = total_runs x y (omega arith) in
-    let f = c.if-out-total.false in
-    let m1 : length c.put_bytes.new.out ≡ length a.out.now = stored_length _ a.out.now _ _ 0 20 c.put_bytes.ensures in
-    let r1 = c.put_five-middle.ensures.0 in
-    let m2 : length c.put_five-middle.new.out ≡ length c.put_bytes.new.out = laid_length _ _ _ _ c.put_five-middle.ensures.1 in
-    let r2 = c.put_five-end.ensures.0 in
-    let m3 : length c.put_five-end.new.out ≡ length c.put_five-middle.new.out = laid_length _ _ _ _ c.put_five-end.ensures.1 in
-    omega arith
+    let t = total-is (goal.at.bounds-out-end c).In_ok-total in
+    let m1 = stored_length _ _ _ _ 0 20 c.put_bytes.ensures in
+    let m2 = laid_length _ _ _ _ c.put_lists-end.ensures.1 in
+    omega (arith, t, m1, m2, c.put_lists-end.ensures.0)
 
 pub overflow_add-end : goal.overflow_add-end
 overflow_add-end c =
-    let a = c.args in
-    let x = (a.kex.now ∷ a.host_key.now ∷ a.cipher_in.now ∷ a.cipher_out.now ∷ a.mac_in.now ∷ []) in
-    let y = (a.mac_out.now ∷ a.compression_in.now ∷ a.compression_out.now ∷ a.language_in.now ∷ a.language_out.now ∷ []) in
-    let t = total_two x y _ _ c.with_five-half.ensures c.with_five-total.ensures in
-    let b = c.if-total-gt-KEXINIT_MOST.false in
-    let n = total_runs x y (omega arith) in
-    let f = c.if-out-total.false in
-    let m1 : length c.put_bytes.new.out ≡ length a.out.now = stored_length _ a.out.now _ _ 0 20 c.put_bytes.ensures in
-    let r1 = c.put_five-middle.ensures.0 in
-    let m2 : length c.put_five-middle.new.out ≡ length c.put_bytes.new.out = laid_length _ _ _ _ c.put_five-middle.ensures.1 in
-    let r2 = c.put_five-end.ensures.0 in
-    let m3 : length c.put_five-end.new.out ≡ length c.put_five-middle.new.out = laid_length _ _ _ _ c.put_five-end.ensures.1 in
-    search rules
-
-pub shape_of-out : goal.shape_of-out
-shape_of-out c =
-    let a = c.args in
-    let m1 : length c.put_bytes.new.out ≡ length a.out.now = stored_length _ a.out.now _ _ 0 20 c.put_bytes.ensures in
-    let r1 = c.put_five-middle.ensures.0 in
-    let m2 : length c.put_five-middle.new.out ≡ length c.put_bytes.new.out = laid_length _ _ _ _ c.put_five-middle.ensures.1 in
-    let r2 = c.put_five-end.ensures.0 in
-    let m3 : length c.put_five-end.new.out ≡ length c.put_five-middle.new.out = laid_length _ _ _ _ c.put_five-end.ensures.1 in
-    let m4 : length c.put_u32.new.out ≡ length c.put_five-end.new.out = stored_length _ c.put_five-end.new.out _ _ c.put_five-end.result c.flag.result c.put_u32.ensures in
-    omega arith
+    let t = total-is (goal.at.overflow_add-end c).In_ok-total in
+    omega (arith, t, c.put_lists-end.ensures.0)
 
 pub returns : goal.returns
 returns c =
     let a = c.args in
-    let x = (a.kex.now ∷ a.host_key.now ∷ a.cipher_in.now ∷ a.cipher_out.now ∷ a.mac_in.now ∷ []) in
-    let y = (a.mac_out.now ∷ a.compression_in.now ∷ a.compression_out.now ∷ a.language_in.now ∷ a.language_out.now ∷ []) in
-    let t = total_two x y _ _ c.with_five-half.ensures c.with_five-total.ensures in
-    let b = c.if-total-gt-KEXINIT_MOST.false in
-    let n = total_runs x y (omega arith) in
-    let f = c.if-out-total.false in
-    let h = c.if-cookie-ne-COOKIE_SIZE.false in
-    let k = kexinit_of a.cookie.now (x ++ y) a.follows a.reserved in
     let o = a.out.now in
-    writer_done _ (kexinit k) o _ _ (write_none k (length o) (omega arith) (omega arith) (omega arith)) (t ∙ length_total k (length o) (omega arith) (omega arith))
-    (message_laid o a.cookie.now x y a.follows a.reserved (omega arith) (omega arith) _ _ c.put_five-middle.ensures.0 c.put_five-end.ensures.0 _ _ _ _
-    c.put_bytes.ensures c.put_five-middle.ensures.1 c.put_five-end.ensures.1
+    let k = kexinit_of a.cookie.now (bodies a.lists.now) a.follows a.reserved in
+    let t = total-is (goal.at.returns c).In_ok-total in
+    writer_done _ (kexinit k) o _ _ (write_none k (length o) (omega arith) t.1 (omega (arith, t.0))) (t.0 ∙ length_total k (length o) (omega arith) t.1)
+    (message_laid o a.cookie.now k.lists a.follows a.reserved (omega arith) (omega (arith, t)) _ c.put_lists-end.ensures.0 _ _ _
+    c.put_bytes.ensures c.put_lists-end.ensures.1
     (c.put_u32.ensures
-    ∙ ap (λ (v : ℕ). laid (set c.put_five-end.new.out c.put_five-end.result v) (c.put_five-end.result + 1) (bytes32 a.reserved)) c.flag.ensures))
+    ∙ ap (λ (v : ℕ). laid (set c.put_lists-end.new.out c.put_lists-end.result v) (c.put_lists-end.result + 1) (bytes32 a.reserved)) (c.from.ensures ∙ byte_of a.follows)))

@@ -1,58 +1,49 @@
 -- `secret::leading_zeros` meets its contract. Assumes nothing.
+use Prim.Native.Nat.{◌+◌}
 use mathlib.Core.Path.{ap}
 use native.Mathlib.Omega.{arith}
-use lib.ListN.{drop_of_length-le}
-use lib.Count.{trailing_le}
+use lib.ListN.{length, get_or, length-drop}
+use lib.Seq.{get_or-drop}
+use Rattle.std.proofs.lemmas.Iterator.{YieldsList-from_slice}
+use Rattle.std.proofs.lemmas.Iterator.Search.{position_from_yields_List}
+use Rattle.std.proofs.Common.{rules}
+use lib.Dec.{eqb}
+use mathlib.Core.Bool.{not}
 use Rattle.secret.specs.Secret.{leading_zeros}
-use Rattle.secret.proofs.SecretLaws.{zeros_more, zeros_stop}
-use Rattle.secret.proofs.WordLaws.{zero_eight, some_eight}
+use Rattle.secret.proofs.WordLaws.{some_word_first, zero_word_first, zeros_found}
 use Rattle.secret.proofs.leading_zeros.Goals as goal
 
-pub returns-then-x-ne0 : goal.returns-then-x-ne0
-returns-then-x-ne0 c =
-    let z = zeros_stop c.args.x.now 0 (omega arith) c.if-x-ne0.true in
+pub returns-then-word-ne0 : goal.returns-then-word-ne0
+returns-then-word-ne0 c =
+    let s = c.loop-word.rest.now in
+    let e = c.in-Some.ensures in
+    let z = some_word_first s c.in-Some.word e.0 e.1 c.loop-word.invariant.2 c.if-word-ne0.true in
+    let r = c.loop-word.invariant.1 in
+    let l = c.loop-word.invariant.0 in
     omega arith
 
-pub returns-then-x-ne0-2 : goal.returns-then-x-ne0-2
-returns-then-x-ne0-2 c =
-    let x = c.args.x.now in
-    let m = zeros_more x 0 (omega arith) c.if-x-ne0.false in
-    let z = zeros_stop x 1 (omega arith) c.if-x-ne0-2.true in
-    omega arith
-
-pub loop-i-init : goal.loop-i-init
-loop-i-init c = (omega arith, omega arith)
-
-pub overflow_cast-result : goal.overflow_cast-result
-overflow_cast-result c = record { fits = omega (arith, trailing_le 64 c.word_at-w.result) }
-
-pub overflow_add-result : goal.overflow_add-result
-overflow_add-result c = record { fits = omega (arith, trailing_le 64 c.word_at-w.result) }
-
-pub returns-then-w-ne0 : goal.returns-then-w-ne0
-returns-then-w-ne0 c =
-    let z = some_eight c.args.x.now c.loop-i.i c.word_at-w.result (omega arith) (omega (arith, c.word_at-w.ensures)) (λ k. (c.shared_slice_known-1.given k).fits) c.if-w-ne0.true in
-    omega arith
-
-pub loop-i-preserved : goal.loop-i-preserved
-loop-i-preserved c =
-    let z = zero_eight c.args.x.now c.loop-i.i c.word_at-w.result (omega arith) (omega (arith, c.word_at-w.ensures)) c.if-w-ne0.false in
-    (omega arith, omega arith)
-
-pub loop-i-2-init : goal.loop-i-2-init
-loop-i-2-init c = c.loop-i.invariant
-
-pub returns-then-x-i-ne0 : goal.returns-then-x-i-ne0
-returns-then-x-i-ne0 c =
-    let z = zeros_stop c.args.x.now c.loop-i-2.i (omega arith) c.if-x-i-ne0.true in
-    omega arith
-
-pub loop-i-2-preserved : goal.loop-i-2-preserved
-loop-i-2-preserved c =
-    let z = zeros_more c.args.x.now c.loop-i-2.i (omega arith) c.if-x-i-ne0.false in
-    (omega arith, omega arith)
+pub loop-word-preserved : goal.loop-word-preserved
+loop-word-preserved c =
+    let s = c.loop-word.rest.now in
+    let t = c.in-Some.behind.now in
+    let e = c.in-Some.ensures in
+    let z = zero_word_first s c.in-Some.word e.0 e.1 c.if-word-ne0.false in
+    let d = ap length e.2 in
+    let r = length-drop 8 s in
+    let k = ap leading_zeros e.2 in
+    let l = c.loop-word.invariant.0 in
+    let i = c.loop-word.invariant.1 in (
+      omega arith,
+      omega arith,
+      λ j. let b = ap (λ m. get_or m j 0) e.2 in let g = get_or-drop 8 s j 0 in let n = c.loop-word.invariant.2 (8 + j) in omega arith,
+    )
 
 pub returns : goal.returns
 returns c =
-    let z = ap leading_zeros (drop_of_length-le c.args.x.now c.loop-i-2-test.false) in
+    let s = c.loop-word.rest.now in
+    let p = position_from_yields_List (λ b. not (eqb b 0)) _ _ c.position.result c.position.ensures.ran (YieldsList-from_slice s c.iter.ensures.rest) (λ x b q k. search rules) in
+    let z = zeros_found s c.position.result p in
+    let u = c.unwrap_or.ensures in
+    let l = c.loop-word.invariant.0 in
+    let i = c.loop-word.invariant.1 in
     omega arith

@@ -1,6 +1,4 @@
 -- `server::read_init` meets its contract. Assumes nothing.
-use mathlib.Core.Path.{ap}
-use mathlib.Core.Bool.{not}
 use borrow.Author.Rules.{rules}
 use mathlib.Core.Path.{refl, ◌∙◌}
 use Rattle.exchange.specs.Steps.{init, count_of, second_of, position_of}
@@ -12,13 +10,13 @@ use Rattle.server.proofs.read_init.Goals as goal
 sizes : (c : Start) → Sized c.args.e
 sizes c = (search rules, search rules, search rules)
 
-pub returns-then-not-lay : goal.returns-then-not-lay
-returns-then-not-lay c =
+pub returns-in_default : goal.returns-in_default
+returns-in_default c =
     let a = c.args in
     let e = a.e in
     let r = a.room.now in
     let q = init a.payload.now in
-    let v = value_long e r q _ _ c.lay.ensures (ap not c.if-not-lay.true) in
+    let v = value_long e r q c.in_default.ensures in
     (c.not_due.ensures ∙ v.0, v.1)
 
 pub returns : goal.returns
@@ -28,5 +26,5 @@ returns c =
     let e = a.e in
     let r = a.room.now in
     let q = init a.payload.now in
-    let v = value_read e r q _ _ c.lay.ensures (ap not c.if-not-lay.false) (sizes (goal.at.returns c).Start) _ _ _ _ _ _ c.read_init-n.ensures (init_size e r a.payload.now) refl refl refl in
+    let v = value_read e r q _ c.in-Some.ensures (sizes (goal.at.returns c).Start) _ _ _ _ _ _ c.read_init-n.ensures (init_size e r a.payload.now) refl refl refl in
     (c.answer.ensures ∙ v.0, v.1)

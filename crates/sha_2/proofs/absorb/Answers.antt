@@ -1,33 +1,19 @@
 -- `sha_2::absorb` meets its contract. Assumes nothing.
-use Prim.Native.Nat.{ℕ, ◌-◌}
-use mathlib.Core.Path.{◌≡◌, sym}
+use Prim.Native.Nat.{◌-◌}
+use mathlib.Core.Path.{sym}
 use native.Mathlib.Omega.{arith}
 use mathlib.Core.List.{◌++◌}
 use lib.ListN.{length, length-append}
-use lib.Seq.{length-take-le}
-use Rattle.limits.specs.Limits.{block_most}
 use Rattle.sha_words.specs.Constants.{width_of}
 use Rattle.sha_words.proofs.PaddingLaws.{sizes_of_lem}
 use Rattle.sha_words.proofs.ValueLaws.{value_after_short}
 use Rattle.sha_2.proofs.CodeLaws.{absorbed}
-use borrow.Author.Rules.{rules}
 use Rattle.sha_2.proofs.absorb.Goals as goal
 
 pub returns-then-part-cut : goal.returns-then-part-cut
 returns-then-part-cut c =
     let a = c.args in
     sym (value_after_short (width_of a.kind) _ (a.before.now ++ a.part.now) (omega (arith, c.block_of-size.ensures, length-append a.before.now a.part.now)))
-
-pub joined-first-requires : goal.joined-first-requires
-joined-first-requires c =
-    let a = c.args in
-    let cut : ℕ = c.block_of-size.result - length a.before.now - 0 in
-    omega (arith, c.block_of-size.ensures, (sizes_of_lem a.kind).most, length-take-le cut a.part.now (omega arith))
-
-pub slice_bounds-blocks-end : goal.slice_bounds-blocks-end
-slice_bounds-blocks-end c =
-    let l : length c.joined-first.result ≡ block_most = search rules in
-    omega (arith, c.block_of-size.ensures, (sizes_of_lem c.args.kind).most)
 
 pub returns : goal.returns
 returns c =

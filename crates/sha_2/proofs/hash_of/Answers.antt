@@ -9,8 +9,6 @@ use borrow.Author.Tests.{leb-true}
 use Rattle.limits.specs.Limits.{hash_most}
 use Rattle.sha_words.specs.Constants.{known, width_of}
 use Rattle.sha_words.specs.Message.{padded, value_after}
-use Rattle.sha_words.proofs.PaddingLaws.{sizes_of_lem}
-use Rattle.sha_words.proofs.DigestLaws.{kind_most}
 use Rattle.sha_2.proofs.WholeLaws.{digested_refused, digested_of}
 use Rattle.sha_2.proofs.hash_of.Goals.{Else-not-is_known-sum_fits}
 use Rattle.sha_2.proofs.hash_of.Goals as goal
@@ -26,19 +24,6 @@ pub returns-then-not-is_known-sum_fits : goal.returns-then-not-is_known-sum_fits
 returns-then-not-is_known-sum_fits c =
     let a = c.args in
     digested_refused a.kind a.a.now a.b.now ((λ i. sym c.is_known.ensures i && sym c.sum_fits.ensures i) ∙ c.if-not-is_known-sum_fits.true)
-
-pub overflow_cast-kind : goal.overflow_cast-kind
-overflow_cast-kind c =
-    let kind = c.args.kind in
-    omega (arith, kind_most kind (fit (goal.at.overflow_cast-kind c).Else-not-is_known-sum_fits).0, (sizes_of_lem kind).eight)
-
-pub value_of_both-v-requires : goal.value_of_both-v-requires
-value_of_both-v-requires c = (fit (goal.at.value_of_both-v-requires c).Else-not-is_known-sum_fits).1
-
-pub cut-requires : goal.cut-requires
-cut-requires c =
-    let kind = c.args.kind in
-    omega (arith, kind_most kind (fit (goal.at.cut-requires c).Else-not-is_known-sum_fits).0, (sizes_of_lem kind).eight)
 
 pub returns : goal.returns
 returns c =

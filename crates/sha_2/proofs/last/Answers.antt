@@ -1,6 +1,6 @@
 -- `sha_2::last` meets its contract. Assumes nothing.
 use Prim.Native.Nat.{ℕ, ◌-◌, ◌*◌, ◌<◌, ◌≤◌}
-use mathlib.Core.Path.{◌≡◌, ap, ◌∙◌}
+use mathlib.Core.Path.{ap, ◌∙◌}
 use native.Mathlib.Omega.{arith}
 use native.Mathlib.Nat.{mod-lt}
 use mathlib.Core.List.{List, [], ◌∷◌, ◌++◌}
@@ -12,7 +12,6 @@ use Rattle.sha_words.specs.Message.{bytes_of, sized}
 use Rattle.sha_words.proofs.SizedLaws.{sized_none}
 use Rattle.sha_words.proofs.PaddingLaws.{Sizes, sizes_of_lem}
 use Rattle.sha_2.proofs.CodeLaws.{last_one, last_two}
-use borrow.Author.Rules.{rules}
 use Rattle.sha_2.proofs.last.Goals.{After-block_of-size}
 use Rattle.sha_2.proofs.last.Goals as goal
 
@@ -35,19 +34,6 @@ known-size c =
       in_block = omega (arith, c.requires.waits, l);
     }
 
-pub joined-b-requires : goal.joined-b-requires
-joined-b-requires c =
-    let k = known-size (goal.at.joined-b-requires c).After-block_of-size in
-    omega (arith, k.less, k.most)
-
-pub overflow_sub-at : goal.overflow_sub-at
-overflow_sub-at c = (known-size (goal.at.overflow_sub-at c).After-block_of-size).three
-
-pub slice_bounds-blocks-end : goal.slice_bounds-blocks-end
-slice_bounds-blocks-end c =
-    let j : length c.joined-b.result ≡ block_most = search rules in
-    omega (arith, c.put_count.auto.t, (known-size (goal.at.slice_bounds-blocks-end c).After-block_of-size).most)
-
 pub returns-then-before-size : goal.returns-then-before-size
 returns-then-before-size c =
     let count = bytes_of 3 (8 * c.args.total) in
@@ -56,14 +42,6 @@ returns-then-before-size c =
     (c.put_count.ensures ∙ ap (λ (l : List ℕ). laid l (c.block_of-size.result - 3) count) c.joined-b.ensures
     ∙ ap (λ (m : ℕ). laid (sized block_most (c.args.before.now ++ (128 ∷ []))) (m - 3) count) c.block_of-size.ensures)
     c.blocks-then-before-size.ensures
-
-pub slice_bounds-blocks-end-2 : goal.slice_bounds-blocks-end-2
-slice_bounds-blocks-end-2 c =
-    let l : length c.joined-b.result ≡ block_most = search rules in
-    omega (arith, (known-size (goal.at.slice_bounds-blocks-end-2 c).After-block_of-size).most)
-
-pub slice_bounds-blocks-end-3 : goal.slice_bounds-blocks-end-3
-slice_bounds-blocks-end-3 c = omega (arith, c.put_count-2.auto.t, (known-size (goal.at.slice_bounds-blocks-end-3 c).After-block_of-size).most)
 
 pub returns : goal.returns
 returns c =

@@ -7,4 +7,4 @@ use Rattle.values.proofs.load_session.Goals as goal
 
 pub returns : goal.returns
 returns c =
-    loaded_session c.args.b.now _ _ _ (c.put_bytes.ensures ∙ ap (laid (zeros h_size) 0) c.id_in.ensures) c.id_len_in.ensures.0 c.count_in.ensures.0
+    loaded_session c.args.b.now _ _ _ (c.in_zeros.ensures ∙ ap (laid (zeros h_size) 0) c.id_in.ensures) c.id_len_in.ensures.0 c.count_in.ensures.0

@@ -1,5 +1,4 @@
 -- `writers::put_string` meets its contract. Assumes nothing.
-use borrow.Author.Rules.{rules}
 use Prim.Native.Nat.{ℕ, ◌+◌}
 use mathlib.Core.Path.{sym, ap, ◌∙◌}
 use mathlib.Core.List.{List}
@@ -11,20 +10,8 @@ use Rattle.wire.proofs.StringLaws.{length_string}
 use Rattle.writers.proofs.WriterLaws.{laid_string}
 use Rattle.writers.proofs.put_string.Goals as goal
 
-pub returns-then-out-at : goal.returns-then-out-at
-returns-then-out-at c =
-    let a = c.args in
-    let n = length_string a.body.now in
-    sym (laid_kept a.out.now a.at (string a.body.now) (omega arith))
-
-pub returns-then-out-at-lt4 : goal.returns-then-out-at-lt4
-returns-then-out-at-lt4 c =
-    let a = c.args in
-    let n = length_string a.body.now in
-    sym (laid_kept a.out.now a.at (string a.body.now) (omega arith))
-
-pub returns-then-out-at-2 : goal.returns-then-out-at-2
-returns-then-out-at-2 c =
+pub returns-then-saturating_sub-body : goal.returns-then-saturating_sub-body
+returns-then-saturating_sub-body c =
     let a = c.args in
     let n = length_string a.body.now in
     sym (laid_kept a.out.now a.at (string a.body.now) (omega arith))

@@ -1,6 +1,0 @@
--- What was read is within the buffer.
-use Rattle.std.proofs.Common.{◌≤◌, length}
-use Rattle.keys_run.proofs.read_full.Given as goal
-
-abbrev pub invariant-loop : goal.invariant-loop
-invariant-loop g l = l.done ≤ length l.buf
