@@ -161,7 +161,8 @@ pub fn castulfrisa_open_list(payload: &[u8], list: u64, opened: &mut [u64; 7]) -
             0
         }
         Err(r) => {
-            *opened = [0, 0, 0, 0, 1, 0, r.position as u64];
+            let c = names::NOTHING_AHEAD;
+            *opened = [0, 0, 0, 0, c.at as u64, c.end as u64, r.position as u64];
             r.cause.number() as u64
         }
     }

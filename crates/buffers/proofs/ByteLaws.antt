@@ -5,14 +5,13 @@ use mathlib.Core.List.{List, [], ◌∷◌, ◌++◌, append_assoc, append-nil}
 use mathlib.Core.Bool.{Bool, true, false, cond, ◌&&◌, false≢true}
 use native.Mathlib.Omega.{arith}
 use native.Mathlib.Nat.{add_assoc, add-zero, zero-add}
-use native.Mathlib.Numerals.{add-one}
 use borrow.Rule.Slice.PartMut.{put_mid}
-use lib.ListN.{length, get_or, take, drop, set, length-append, length-drop, length-replicate, replicate-append-replicate, take-append-drop}
-use lib.Seq.{sets-eq, paste, take_all, take-length, length-take-le, take_at, drop_at, drop-length, drop-append-add, drop-drop, drop-cons}
+use lib.ListN.{length, take, drop, set, length-append, length-drop, length-replicate, replicate-append-replicate, take-append-drop}
+use lib.Seq.{sets-eq, paste, paste-suc, take_all, take-length, length-take-le, take_at, drop_at, drop-length, drop-append-add, drop-drop}
 use lib.Dec.{eqb, leb}
 use Rattle.std.specs.List.{zip, list_all}
 use borrow.Author.Tests.{le-leb, lt-leb, leb-true, leb-false, eqb-true, eq-eqb}
-use Rattle.buffers.specs.Bytes.{Bytes, zeros, same, onto, over, laid}
+use Rattle.buffers.specs.Bytes.{Bytes, zeros, same, onto, over, laid, stored, eight}
 
 -- the part `&s[k..]`, as the slice rule states it
 pub tail_part : (s : List ℕ) (k : ℕ) → take (length s - k) (drop k s) ≡ drop k s
@@ -104,7 +103,7 @@ pub over_nil : (l : List ℕ) (at : ℕ) → over l at [] ≡ l
 unfolding over
 over_nil l at = simp (append-nil, add-zero, take-append-drop)
 
--- one store, and two
+-- one store, two and four
 pub over_one : (l : List ℕ) (at a : ℕ) → at + 1 ≤ length l → set l at a ≡ over l at (a ∷ [])
 unfolding over
 over_one l at a h = sets-eq (a ∷ []) l at h
@@ -112,6 +111,20 @@ over_one l at a h = sets-eq (a ∷ []) l at h
 pub over_two : (l : List ℕ) (at a b : ℕ) → at + 2 ≤ length l → set (set l at a) (at + 1) b ≡ over l at (a ∷ b ∷ [])
 unfolding over
 over_two l at a b h = let e : at + 1 ≡ suc at = omega arith in rw e (sets-eq (a ∷ b ∷ []) l at h)
+
+pub over_four : (l : List ℕ) (at a b c d : ℕ) → at + 4 ≤ length l
+    → set (set (set (set l at a) (at + 1) b) (at + 2) c) (at + 3) d ≡ over l at (a ∷ b ∷ c ∷ d ∷ [])
+unfolding over
+over_four l at a b c d h =
+    let e1 : at + 1 ≡ suc at = omega arith in
+    let e2 : at + 2 ≡ suc (suc at) = omega arith in
+    let e3 : at + 3 ≡ suc (suc (suc at)) = omega arith in
+    rw (e1, e2, e3) (sets-eq (a ∷ b ∷ c ∷ d ∷ []) l at h)
+
+-- a copy at its end
+pub over_paste : (l : List ℕ) (at : ℕ) (s : List ℕ) → paste l at s (length s) ≡ over l at s
+unfolding over
+over_paste l at s = rw (take-length s)
 
 -- a part that was written over
 pub over_part : (l : List ℕ) (at n : ℕ) (b new : List ℕ) → n ≡ length b → new ≡ b → put_mid at n l new ≡ over l at b
@@ -121,6 +134,43 @@ over_part l at n b new e q =
     let d : put_mid at (length b) l b ≡ over l at b =
     ap (λ (x : List ℕ). take at l ++ (b ++ x)) (drop-drop (length b) at l) ∙ sym (append_assoc (take at l) b (drop (at + length b) l)) in
     w ∙ d
+
+-- a part of as many bytes as b, which were set
+pub over_set : (l : List ℕ) (at k n : ℕ) (b new : List ℕ) → at + n ≤ length l → k ≡ n → n ≡ length b
+    → new ≡ cond (eqb (length (take k (drop at l))) n) b (take k (drop at l)) → put_mid at k l new ≡ over l at b
+over_set l at k n b new h e q s =
+    let m : length (take k (drop at l)) ≡ n = ap (λ (j : ℕ). length (take j (drop at l))) e ∙ length-take-le n (drop at l) (omega (arith, length-drop at l)) in
+    over_part l at k b new (e ∙ q) (s ∙ ap (λ (t : Bool). cond t b (take k (drop at l))) (eq-eqb (length (take k (drop at l))) n m))
+
+-- bytes stored one by one behind those that are laid already
+stored_paste : (d : List ℕ) (at : ℕ) (s : List ℕ) (i k n : ℕ) → at + (i + (k + n)) ≤ length d → i + (k + n) ≤ length s
+    → stored at s i k n (paste d at s (i + k)) ≡ paste d at s (i + (k + n))
+stored_paste d at s i k zero h g = let e : i + k ≡ i + (k + 0) = omega arith in ap (paste d at s) e
+stored_paste d at s i k (suc n) h g =
+    let a : at + (i + k) < length d = omega arith in
+    let b : i + k < length s = omega arith in
+    let e : suc (i + k) ≡ i + suc k = omega arith in
+    let f : i + (suc k + n) ≡ i + (k + suc n) = omega arith in
+    ap (stored at s i (suc k) n) (paste-suc d at s (i + k) 0 a b ∙ ap (paste d at s) e)
+    ∙ stored_paste d at s i (suc k) n (omega arith) (omega arith)
+    ∙ ap (paste d at s) f
+
+eight_paste : (d : List ℕ) (at : ℕ) (s : List ℕ) (i : ℕ) → at + (i + 8) ≤ length d → i + 8 ≤ length s
+    → eight at s i (paste d at s i) ≡ paste d at s (i + 8)
+eight_paste d at s i h g =
+    let a : at + i < length d = omega arith in
+    let b : i < length s = omega arith in
+    let e : suc i ≡ i + 1 = omega arith in
+    ap (stored at s i 1 7) (paste-suc d at s i 0 a b ∙ ap (paste d at s) e)
+    ∙ stored_paste d at s i 1 7 h g
+
+pub sixteen_paste : (d : List ℕ) (at : ℕ) (s : List ℕ) (i : ℕ) → at + (i + 16) ≤ length d → i + 16 ≤ length s
+    → eight at s (i + 8) (eight at s i (paste d at s i)) ≡ paste d at s (i + 16)
+sixteen_paste d at s i h g =
+    let e : i + 8 + 8 ≡ i + 16 = omega arith in
+    ap (eight at s (i + 8)) (eight_paste d at s i (omega arith) (omega arith))
+    ∙ eight_paste d at s (i + 8) (omega arith) (omega arith)
+    ∙ ap (paste d at s) e
 
 -- ---- onto
 

@@ -24,7 +24,7 @@ fn put_u64(b: &mut [u8], at: usize, n: u64)
     requires { at + 8 ≤ length b.old }
     ensures { b.new ≡ over b.old at (bytes64 n) }
 {
-    b[at..at + 8].copy_from_slice(&n.to_be_bytes());
+    buffers::put_array(b, at, n.to_be_bytes());
 }
 
 // Changes the bytes of an exchange; bytes of another size stay.

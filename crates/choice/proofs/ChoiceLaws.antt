@@ -228,6 +228,11 @@ module _ (client server : List ℕ) where
       → guessed_wrong client server ≡ not (same (first_of (list_names client 2)) (first_of (list_names server 2)))
   guess_host_key h = rw h
 
+  -- both first names are the same
+  pub guess_right : same (first_of (list_names client 1)) (first_of (list_names server 1)) ≡ true
+      → same (first_of (list_names client 2)) (first_of (list_names server 2)) ≡ true → guessed_wrong client server ≡ false
+  guess_right h k = guess_host_key h ∙ ap not k
+
 module _ (allowed : ℕ → Bool) (client server : List ℕ) where
   -- ---- choice_cause
 

@@ -1,1 +1,2 @@
 pub mod PlainLaws
+pub mod VersionLaws

@@ -1,4 +1,4 @@
--- Deriving from an exchange in lent bytes: what it reads of a complete one. Assumes nothing.
+-- Deriving from an exchange in lent bytes: its number where the letter is none, and what it reads of a complete one. Assumes nothing.
 use Prim.Native.Nat.{ℕ, ◌+◌, ◌≤◌}
 use mathlib.Core.Path.{◌≡◌, refl, sym, ap, ◌∙◌}
 use mathlib.Core.List.{List, []}
@@ -11,7 +11,7 @@ use Rattle.limits.specs.Limits.{k_size, h_size, key_most, letter_first, letter_l
 use Rattle.limits.specs.Range.{within}
 use Rattle.limits.proofs.BoolLaws.{and_true, both}
 use Rattle.wire.specs.Strings.{number32, number_at}
-use Rattle.wire.proofs.CauseLaws.{if_none, unless_none}
+use Rattle.wire.proofs.CauseLaws.{if_none, unless_holds, unless_fails, unless_none}
 use Rattle.wire.proofs.StringLaws.{number_at_lem}
 use Rattle.sha_words.specs.Constants.{known}
 use Rattle.methods.specs.Rows.{row_of, k_most}
@@ -24,8 +24,20 @@ use Rattle.exchange.specs.declared.Stage.TheVariants.{Started, CSent, InitRead, 
 use Rattle.exchange.proofs.CauseFacts.{method_row}
 use Rattle.exchange.proofs.DueLaws.{completed_known, session_known_lem, id_most}
 use Rattle.stored.specs.Stored.{fits, number16, decoded, by_fit, k_kept, h_kept, id_len_told, id_kept}
-use Rattle.stored.proofs.StoredLaws.{method_read, size_taken, fits_known}
+use Rattle.stored.proofs.StoredLaws.{method_read, size_taken, fits_known, fit_taken}
 use Rattle.keys.specs.Derived.{derive_cause, recorded_k, recorded_h, identifier}
+
+-- ---- the number
+
+module _ (b : List ℕ) (letter len out : ℕ) where
+  module _ (c : (fits b && completed (decoded b)) ≡ true) where
+    pub bad_letter : within letter_first letter_last letter ≡ false → 4 ≡ by_fit b (derive_cause (decoded b) letter len out) 1
+    unfolding derive_cause
+    bad_letter h =
+        let g = and_true (fits b) (completed (decoded b)) c in
+        sym (unless_holds (completed (decoded b)) 1 _ g.1
+        ∙ unless_fails (within letter_first letter_last letter && within 1 key_most len) 4 _ (ap (λ (t : Bool). t && within 1 key_most len) h))
+        ∙ fit_taken b (derive_cause (decoded b) letter len out) 1 g.0
 
 -- ---- what an accepted call knows
 

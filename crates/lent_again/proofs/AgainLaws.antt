@@ -1,21 +1,21 @@
--- What the bytes of a complete exchange tell; the room with the new I_C and I_S, and the exchange's bytes. Assumes nothing.
-use Prim.Native.Nat.{ℕ, ◌+◌, ◌≤◌}
+-- A room that is too short; what the bytes of a complete exchange tell; the room with the new I_C and I_S, and the exchange's bytes. Assumes nothing.
+use Prim.Native.Nat.{ℕ, ◌+◌, ◌≤◌, ◌<◌}
 use mathlib.Core.Path.{◌≡◌, refl, sym, ap, ◌∙◌}
 use mathlib.Core.List.{List, [], ◌++◌}
 use mathlib.Core.Bool.{Bool, true, false, cond, ◌&&◌}
 use native.Mathlib.Omega.{arith}
 use lib.ListN.{length, get_or, drop}
-use borrow.Author.Tests.{eq-eqb, ne_eqb}
-use Rattle.limits.specs.Limits.{version_most, kexinit_most, room_least}
+use borrow.Author.Tests.{lt-ltb, eq-eqb, ne_eqb}
+use Rattle.limits.specs.Limits.{version_most, kexinit_most, room_least, method_last}
 use Rattle.limits.proofs.BoolLaws.{and_true}
-use Rattle.limits.proofs.RangeLaws.{within_most}
+use Rattle.limits.proofs.RangeLaws.{within_is, within_most}
 use Rattle.buffers.specs.Bytes.{zeros, over, laid}
 use Rattle.buffers.proofs.ByteLaws.{length_over, over_over, laid_fits}
-use Rattle.wire.proofs.CauseLaws.{unless_holds, unless_fails}
+use Rattle.wire.proofs.CauseLaws.{if_holds, unless_holds, unless_fails}
 use Rattle.transcript.specs.Fields.{field, field_length, field_size, size_sum}
 use Rattle.transcript.proofs.RoomLaws.{length_field, field_length_most}
 use Rattle.transcript.proofs.FieldLaws.{field_size_fits, size_sum_fits}
-use Rattle.exchange.specs.Causes.{again_cause}
+use Rattle.exchange.specs.Causes.{method_ok, again_cause}
 use Rattle.exchange.specs.Record.{no_lengths, completed}
 use Rattle.exchange.specs.Again.{again_number, versions_end, begun_again, again_room}
 use Rattle.exchange.specs.declared.Stage.TheVariants.{Started}
@@ -28,6 +28,14 @@ use Rattle.stored.proofs.RoundTrip.{session_stored}
 use Rattle.changes.specs.Changes.{put_head}
 use Rattle.changes.proofs.ChangeLaws.{head_put}
 use Rattle.lent.specs.Lent.{left, untouched, again_left, lent_again}
+
+-- ---- again_cause
+
+module _ (m : ℕ) (ic is : List ℕ) (room count : ℕ) where
+  module _ (a : 1 ≤ m) (b : m ≤ method_last) where
+    pub again_room_lem : room < room_least → 3 ≡ again_cause m ic is room count
+    unfolding again_cause method_ok
+    again_room_lem h = sym (unless_holds _ 2 _ (within_is 1 method_last m a b) ∙ if_holds _ 3 _ (lt-ltb room room_least h))
 
 -- ---- what the bytes of a complete exchange tell
 

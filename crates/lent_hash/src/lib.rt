@@ -24,23 +24,21 @@ fn number_in(h: &[u8], at: usize) -> usize
     requires { at + 8 ≤ length h.now }
     ensures { result ≡ word_at h.now at 8 }
 {
-    usize::from_be_bytes(*h[at..at + 8].as_array().unwrap())
+    let bytes: [u8; 8] = *h[at..at + 8].as_array().unwrap();
+    let [b0, b1, b2, b3, b4, b5, b6, b7] = bytes;
+    numbers::join_64(b0, b1, b2, b3, b4, b5, b6, b7) as usize
 }
 
 fn load(h: &[u8]) -> Hash
     requires { length h.now ≡ hash_size }
     ensures { result ≡ state_in h.now }
 {
-    let mut value = [0u8; limits::H_SIZE];
-    value.copy_from_slice(&h[VALUE_AT..TAIL_AT]);
-    let mut tail = [0u8; limits::BLOCK_MOST];
-    tail.copy_from_slice(&h[TAIL_AT..]);
     Hash {
         kind: h[0],
         total: number_in(h, TOTAL_AT),
         held: number_in(h, HELD_AT),
-        value,
-        tail,
+        value: *h[VALUE_AT..TAIL_AT].as_array().unwrap(),
+        tail: *h[TAIL_AT..].as_array().unwrap(),
     }
 }
 
@@ -48,11 +46,11 @@ fn store(h: &mut [u8], s: &Hash)
     requires { length h.old ≡ hash_size }
     ensures { h.new ≡ state_bytes s.now }
 {
-    buffers::put_bytes(h, 0, &[s.kind]);
-    buffers::put_bytes(h, TOTAL_AT, &numbers::bytes_64(s.total as u64));
-    buffers::put_bytes(h, HELD_AT, &numbers::bytes_64(s.held as u64));
-    buffers::put_bytes(h, VALUE_AT, &s.value);
-    buffers::put_bytes(h, TAIL_AT, &s.tail);
+    buffers::put_array(h, 0, [s.kind]);
+    buffers::put_array(h, TOTAL_AT, numbers::bytes_64(s.total as u64));
+    buffers::put_array(h, HELD_AT, numbers::bytes_64(s.held as u64));
+    buffers::put_array(h, VALUE_AT, s.value);
+    buffers::put_array(h, TAIL_AT, s.tail);
 }
 
 // Starts a hash: of an unknown kind 4, and a state that fits nothing.

@@ -6,7 +6,7 @@ use mathlib.Core.Bool.{Bool, true, false, cond, ◌&&◌}
 use native.Mathlib.Omega.{arith}
 use lib.ListN.{length, get_or, set, take, drop}
 use lib.Dec.{leb, ltb, eqb}
-use borrow.Author.Tests.{eq-eqb, ne_eqb, le-leb, lt-leb, lt-ltb, le-ltb}
+use borrow.Author.Tests.{eq-eqb, ne_eqb, le-leb, lt-leb, leb-true, leb-false, lt-ltb, le-ltb}
 use Rattle.limits.specs.Limits.{string_most, list_count, cookie_size, kexinit_most}
 use Rattle.limits.specs.Every.{every}
 use mathlib.Core.Logic.{◌⊎◌, inl, inr}
@@ -17,8 +17,10 @@ use Rattle.std.specs.Slice.{IsGetRangeResult}
 use Rattle.limits.proofs.BoolLaws.{both, and_false}
 use Rattle.buffers.specs.Bytes.{onto, laid}
 use Rattle.wire.specs.Causes.{cause_if}
+use Rattle.wire.specs.Parts.{part, inside, bytes_at}
 use Rattle.wire.specs.Strings.{bytes32, strings}
 use Rattle.wire.proofs.CauseLaws.{if_holds, if_fails, unless_holds, unless_fails}
+use Rattle.wire.proofs.PartLaws.{inside_fits, inside_past}
 use Rattle.names.specs.Names.{good_list}
 use Rattle.writers.specs.Writers.{wrote, leaves}
 use Rattle.writers.proofs.WriterLaws.{told_refused, told_done}
@@ -38,6 +40,15 @@ module _ (s : List ℕ) (from to : ℕ) where
   list_is : from ≤ to → to ≤ length s → take (to - from) (drop from s) ≡ list_at s from to
   unfolding list_at
   list_is h k = rw (le-leb from to h, le-leb to (length s) k)
+
+  -- the same as a part of the buffer
+  pub list_part_lem : from ≤ to → bytes_at s (inside (length s) (part from (to - from))) ≡ list_at s from to
+  unfolding list_at
+  list_part_lem h = by_test (leb to (length s)) refl
+    where
+      by_test : (t : Bool) → leb to (length s) ≡ t → bytes_at s (inside (length s) (part from (to - from))) ≡ cond (leb from to && t) (take (to - from) (drop from s)) []
+      by_test true e = rw (le-leb from to h, inside_fits (length s) (part from (to - from)) (omega (arith, leb-true to (length s) e)))
+      by_test false e = rw (le-leb from to h, inside_past (length s) (part from (to - from)) (omega (arith, leb-false to (length s) e)))
 
   -- what `get` finds there, or the empty list
   pub list_got : (r : Option (Bor (List ℕ))) (d : Bor (List ℕ)) → IsGetRangeResult s from to r → d.now ≡ [] → (unwrap_or r d).now ≡ list_at s from to

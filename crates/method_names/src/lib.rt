@@ -25,12 +25,23 @@ fn text_of(number: u8) -> &'static [u8]
     }
 }
 
-// How long the name is.
-#[tactic(auto, using(crate::proofs::NameLaws::name_size))]
+// How long the name is: the row's own number, so that the search knows a name of another length without a look at the text.
+#[tactic(auto, unfolding(methods::specs::Rows::row_of, methods::specs::Rows::rows))]
 pub fn name_len(number: u8) -> usize
     ensures { result ≡ (row_of number).name_len }
 {
-    text_of(number).len()
+    match number {
+        1 => 17,
+        2 => 28,
+        3 => 15,
+        4 => 18,
+        5 => 18,
+        6 => 18,
+        7 => 23,
+        8 => 24,
+        9 => 21,
+        _ => 0,
+    }
 }
 
 // Whether this is the name of a method's number. A call of its own, since the search's count of nine is unrolled.
@@ -46,7 +57,7 @@ pub fn number_of(name: &[u8]) -> u8
     ensures { result ≡ number_of name.now }
 {
     for number in 1..=limits::METHOD_LAST {
-        if is_name(name, number) {
+        if name.len() == name_len(number) && is_name(name, number) {
             return number;
         }
     }

@@ -115,6 +115,14 @@ total_bad t (l ∷ ls) h = by_test (good_list l) refl (leb (t + 4 + length l) ke
     by_test true g false f e =
         ap (λ (b : Bool). every good_list ls && b) (past (leb-false (t + 4 + length l) kexinit_most f)) ∙ and_false (every good_list ls)
 
+-- two runs, one after the other
+pub total_two : (a b : List (List ℕ)) (half t : ℕ) → half ≡ total 22 a → t ≡ total half b → t ≡ total 22 (a ++ b)
+total_two a b half t e f = f ∙ ap (λ (n : ℕ). total n b) e ∙ sym (total_append 22 a)
+  where
+    total_append : (n : ℕ) (a : List (List ℕ)) → total n (a ++ b) ≡ total (total n a) b
+    total_append n [] = refl
+    total_append n (l ∷ a) = total_append (with_list n l) a
+
 -- ---- why it is not written
 
 module _ (k : Kexinit) where

@@ -57,11 +57,13 @@ impl Word for Word32 {
     }
 
     fn read(b: &[u8], at: usize) -> Word32 {
-        Word32(u32::from_be_bytes(*b[at..at + 4].as_array().unwrap()))
+        let bytes: [u8; 4] = *b[at..at + 4].as_array().unwrap();
+        let [b0, b1, b2, b3] = bytes;
+        Word32(numbers::join_32(b0, b1, b2, b3))
     }
 
     fn put(self, out: &mut [u8], at: usize) {
-        buffers::put_bytes(out, at, &numbers::bytes_32(self.0));
+        buffers::put_array(out, at, numbers::bytes_32(self.0));
     }
 
     ghost bytes = { Prim.search rules };

@@ -57,11 +57,13 @@ impl Word for Word64 {
     }
 
     fn read(b: &[u8], at: usize) -> Word64 {
-        Word64(u64::from_be_bytes(*b[at..at + 8].as_array().unwrap()))
+        let bytes: [u8; 8] = *b[at..at + 8].as_array().unwrap();
+        let [b0, b1, b2, b3, b4, b5, b6, b7] = bytes;
+        Word64(numbers::join_64(b0, b1, b2, b3, b4, b5, b6, b7))
     }
 
     fn put(self, out: &mut [u8], at: usize) {
-        buffers::put_bytes(out, at, &numbers::bytes_64(self.0));
+        buffers::put_array(out, at, numbers::bytes_64(self.0));
     }
 
     ghost bytes = { Prim.search rules };

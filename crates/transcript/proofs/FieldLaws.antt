@@ -1,11 +1,11 @@
 -- Laws for the proofs of the functions: a field that is missing, one turn of each loop, and what is laid ahead. Assumes nothing.
-use Prim.Native.Nat.{ℕ, ◌+◌, ◌≤◌, ◌<◌}
+use Prim.Native.Nat.{ℕ, zero, suc, ◌+◌, ◌≤◌, ◌<◌}
 use mathlib.Core.Path.{◌≡◌, refl, sym, ap, ◌∙◌}
-use mathlib.Core.List.{List, [], ◌∷◌, ◌++◌, append_assoc}
+use mathlib.Core.List.{List, [], ◌∷◌, ◌++◌, append_assoc, append-nil}
 use native.Mathlib.Omega.{arith}
-use native.Mathlib.Nat.{add_assoc}
-use lib.ListN.{length, take, drop, length-append, length-take, length-drop}
-use lib.Seq.{paste, drop_at, take-take, take-append-le, length-take-le}
+use native.Mathlib.Nat.{add_assoc, add-zero}
+use lib.ListN.{length, get_or, take, drop, set, length-append, length-take, length-drop, drop_of_length-le, take-append-drop}
+use lib.Seq.{paste, drop_at, take-take, take-append-le, drop-append-le, drop-drop, drop-cons, sets-eq, length-take-le}
 use borrow.Author.Tests.{le-leb, lt-leb, leb-true, leb-false, eq-eqb, ne_eqb}
 use lib.Dec.{leb}
 use mathlib.Core.Bool.{Bool, true, false}
@@ -80,14 +80,123 @@ size_of f r e h = let g = e ∙ field_size_fits (length f) h in (g, omega (arith
 pub laid_missing : (l : List ℕ) (at : ℕ) (f : List ℕ) → length f ≡ 0 → l ≡ laid l at (field f)
 laid_missing l at f h = sym (ap (laid l at) (field_none f h) ∙ laid_nil l at)
 
--- ---- bytes moved up
+-- ---- bytes moved up, the last of them first
 
+-- ---- sixteen bytes, read and then written
+
+-- n bytes of l from i + k on, one by one
+abbrev run : List ℕ → ℕ → ℕ → ℕ → List ℕ
+run l i k zero = []
+run l i k (suc n) = get_or l (i + k) 0 ∷ run l i (suc k) n
+
+run_is : (l : List ℕ) (i k n : ℕ) → i + (k + n) ≤ length l → run l i k n ≡ take n (drop (i + k) l)
+run_is l i k zero h = refl
+run_is l i k (suc n) h =
+    let e : i + suc k ≡ suc (i + k) = omega arith in
+    ap (λ (x : List ℕ). get_or l (i + k) 0 ∷ x) (run_is l i (suc k) n (omega arith) ∙ ap (λ (m : ℕ). take n (drop m l)) e)
+    ∙ sym (rw (drop-cons l (i + k) 0 (omega arith)))
+
+pub over_eight : (l : List ℕ) (at b0 b1 b2 b3 b4 b5 b6 b7 : ℕ) → at + 8 ≤ length l
+    → set (set (set (set (set (set (set (set l at b0) (at + 1) b1) (at + 2) b2) (at + 3) b3) (at + 4) b4) (at + 5) b5) (at + 6) b6) (at + 7) b7
+    ≡ over l at (b0 ∷ b1 ∷ b2 ∷ b3 ∷ b4 ∷ b5 ∷ b6 ∷ b7 ∷ [])
+unfolding over
+over_eight l at b0 b1 b2 b3 b4 b5 b6 b7 h =
+    let e1 : at + 1 ≡ suc at = omega arith in
+    let e2 : at + 2 ≡ suc (suc at) = omega arith in
+    let e3 : at + 3 ≡ suc (suc (suc at)) = omega arith in
+    let e4 : at + 4 ≡ suc (suc (suc (suc at))) = omega arith in
+    let e5 : at + 5 ≡ suc (suc (suc (suc (suc at)))) = omega arith in
+    let e6 : at + 6 ≡ suc (suc (suc (suc (suc (suc at))))) = omega arith in
+    let e7 : at + 7 ≡ suc (suc (suc (suc (suc (suc (suc at)))))) = omega arith in
+    rw (e1, e2, e3, e4, e5, e6, e7) (sets-eq (b0 ∷ b1 ∷ b2 ∷ b3 ∷ b4 ∷ b5 ∷ b6 ∷ b7 ∷ []) l at h)
+
+-- eight of them, then the other eight
+pub moved_sixteen : (l m o : List ℕ) (from to : ℕ) → from + 16 ≤ length l → to + 16 ≤ length l
+    → m ≡ over l to (get_or l from 0 ∷ run l from 1 7) → o ≡ over m (to + 8) (run l from 8 8)
+    → o ≡ over l to (take 16 (drop from l))
+moved_sixteen l m o from to h k e f =
+    let x : List ℕ = get_or l from 0 ∷ run l from 1 7 in
+    let d : from + 1 ≡ suc from = omega arith in
+    let a : x ++ run l from 8 8 ≡ take 16 (drop from l) =
+    ap (λ (y : List ℕ). get_or l from 0 ∷ y) (run_is l from 1 15 h ∙ ap (λ (n : ℕ). take 15 (drop n l)) d) ∙ sym (rw (drop-cons l from 0 (omega arith))) in
+    f ∙ ap (λ (y : List ℕ). over y (to + 8) (run l from 8 8)) e ∙ over_over l to x (run l from 8 8) (omega arith) ∙ ap (over l to) a
+
+-- i of them are still to move
+unfoldable pub shifted : List ℕ → ℕ → ℕ → ℕ → ℕ → List ℕ
+shifted r at len by i = take (at + by + i) r ++ drop i (take len (drop at r)) ++ drop (at + by + len) r
+
+-- at first all of them
+pub shifted_none : (r : List ℕ) (at len by : ℕ) → at + by + len ≤ length r → r ≡ shifted r at len by len
+unfolding shifted
+shifted_none r at len by h =
+    let e : length (take len (drop at r)) ≤ len = simp length-take (omega arith) in
+    simp (drop_of_length-le (take len (drop at r)) e, append-nil, take-append-drop)
+
+-- bytes that all stand in the first of two parts
+front_part : (p s : List ℕ) (k n : ℕ) → k + n ≤ length p → take n (drop k (p ++ s)) ≡ take n (drop k p)
+front_part p s k n h =
+    let e : n ≤ length (drop k p) = omega (arith, length-drop k p) in
+    rw (drop-append-le k p s (omega arith), take-append-le n (drop k p) s e)
+
+-- n more are moved
+pub shifted_some : (r d : List ℕ) (at len by i n : ℕ) → d ≡ shifted r at len by (i + n) → at + by + len ≤ length r → i + n ≤ len
+    → over d (at + by + i) (take n (drop (at + i) d)) ≡ shifted r at len by i
+unfolding shifted over
+shifted_some r d at len by i n e h l =
+    let k : ℕ = at + by + (i + n) in
+    let m : List ℕ = take len (drop at r) in
+    let p : List ℕ = take k r in
+    let rest : List ℕ = drop (i + n) m ++ drop (at + by + len) r in
+    let lm : length m ≡ len = simp (length-take, length-drop) (omega arith) in
+    let lp : length p ≡ k = length-take-le k r (omega arith) in
+    let s : d ≡ p ++ rest = e ∙ append_assoc p (drop (i + n) m) (drop (at + by + len) r) in
+    -- what stands ahead of them
+    let t : take (at + by + i) d ≡ take (at + by + i) r =
+    ap (take (at + by + i)) s ∙ take-append-le (at + by + i) p rest (omega arith) ∙ take-take (at + by + i) k r (omega arith) in
+    -- the bytes that are read
+    let u : take n (drop (at + i) d) ≡ take n (drop i m) =
+    ap (λ (x : List ℕ). take n (drop (at + i) x)) s
+    ∙ front_part p rest (at + i) n (omega arith)
+    ∙ sym (front_part p (drop k r) (at + i) n (omega arith))
+    ∙ ap (λ (x : List ℕ). take n (drop (at + i) x)) (take-append-drop k r)
+    ∙ sym (ap (take n) (drop-drop i at r))
+    ∙ ap (λ (x : List ℕ). take n (drop i x)) (sym (take-append-drop len (drop at r)))
+    ∙ front_part m (drop len (drop at r)) i n (omega arith) in
+    let lu : length (take n (drop i m)) ≡ n = simp (length-take, length-drop) (omega arith) in
+    -- those behind
+    let z : at + by + i + n ≡ k = omega arith in
+    let v : drop (at + by + i + n) d ≡ rest = ap (drop (at + by + i + n)) s ∙ drop_at p rest (at + by + i + n) (lp ∙ sym z) in
+    let w : take n (drop i m) ++ drop (i + n) m ≡ drop i m =
+    ap (λ (x : List ℕ). take n (drop i m) ++ x) (sym (drop-drop n i m)) ∙ take-append-drop n (drop i m) in
+    let g : take (at + by + i) r ++ take n (drop i m) ++ rest ≡ take (at + by + i) r ++ (take n (drop i m) ++ drop (i + n) m) ++ drop (at + by + len) r =
+    simp append_assoc in
+    rw (t, u, lu, v) (g ∙ ap (λ (x : List ℕ). take (at + by + i) r ++ x ++ drop (at + by + len) r) w)
+
+-- at the end none is left to move
+pub shifted_all : (r d : List ℕ) (at len by i : ℕ) → d ≡ shifted r at len by i → i ≡ 0 → at + by + len ≤ length r
+    → d ≡ over r (at + by) (take len (drop at r))
+unfolding shifted over
+shifted_all r d at len by i e z h =
+    let n : length (take len (drop at r)) ≡ len = simp (length-take, length-drop) (omega arith) in
+    e ∙ rw (z, n, add-zero)
+
+-- moved at once
 pub moved : (r : List ℕ) (at len by n : ℕ) → at + by + len ≤ length r → n ≡ len
     → paste r (at + by) (drop at r) n ≡ over r (at + by) (take len (drop at r))
 unfolding over
 moved r at len by n h e =
     let m : length (take len (drop at r)) ≡ len = simp (length-take, length-drop) (omega arith) in
     rw (e, m) refl
+
+-- as what is left is
+pub shifted_rest : (r d : List ℕ) (at len by i n : ℕ) → d ≡ shifted r at len by i → at + by + len ≤ length r → i ≤ len → length d ≡ length r → n ≡ i
+    → paste d (at + by) (drop at d) n ≡ over r (at + by) (take len (drop at r))
+shifted_rest r d at len by i n e h l m q =
+    let x : List ℕ = over d (at + by + 0) (take i (drop (at + 0) d)) in
+    let z : over d (at + by) (take i (drop at d)) ≡ x = simp add-zero refl in
+    let j : i ≡ 0 + i = omega arith in
+    let s : x ≡ shifted r at len by 0 = shifted_some r d at len by 0 i (e ∙ ap (shifted r at len by) j) h (omega arith) in
+    moved d at i by n (omega arith) q ∙ z ∙ shifted_all r x at len by 0 s refl h
 
 -- ---- laid ahead of what was laid
 

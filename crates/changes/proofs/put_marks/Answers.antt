@@ -1,7 +1,6 @@
 -- `changes::put_marks` meets its contract. Assumes nothing.
 use native.Mathlib.Omega.{arith}
 use mathlib.Core.List.{[], ◌∷◌}
-use lib.ListN.{set, length-set}
 use lib.Seq.{sets-eq}
 use Rattle.limits.specs.Limits.{exchange_mark}
 use Rattle.buffers.specs.Bytes.{over}

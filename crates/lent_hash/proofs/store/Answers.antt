@@ -19,10 +19,10 @@ returns c =
     let t : length s.tail ≡ block_most = search rules in
     let total = c.bytes_64.ensures in
     let held = c.bytes_64-2.ensures in
-    c.put_bytes-5.ensures
-    ∙ ap (λ (t : List ℕ). laid t 81 s.tail) (c.put_bytes-4.ensures
-    ∙ ap (λ (t : List ℕ). laid t 17 s.value) (c.put_bytes-3.ensures
-    ∙ ap (λ (t : List ℕ). laid t 9 c.bytes_64-2.result) (c.put_bytes-2.ensures
-    ∙ ap (λ (t : List ℕ). laid t 1 c.bytes_64.result) c.put_bytes.ensures)))
+    c.put_array-5.ensures
+    ∙ ap (λ (t : List ℕ). laid t 81 s.tail) (c.put_array-4.ensures
+    ∙ ap (λ (t : List ℕ). laid t 17 s.value) (c.put_array-3.ensures
+    ∙ ap (λ (t : List ℕ). laid t 9 c.bytes_64-2.result) (c.put_array-2.ensures
+    ∙ ap (λ (t : List ℕ). laid t 1 c.bytes_64.result) c.put_array.ensures)))
     ∙ laid_five c.args.h.now (s.kind ∷ []) _ _ s.value s.tail refl (ap length total ∙ length_bytes_of 8 s.total) (ap length held ∙ length_bytes_of 8 s.held) v t c.requires
     ∙ (λ i. (s.kind ∷ []) ++ total i ++ held i ++ s.value ++ s.tail)
